@@ -14,7 +14,6 @@ use Rattle.network.specs.Run.{isInner, taken, brought}
 use Rattle.network.specs.Run.{State as Functions, moved as changed, push as pushed, relabel as relabelled, amount as moves}
 use Rattle.network.proofs.Cuts.{finish-node}
 use Rattle.network.proofs.Gaps.{ends-differ}
-
 use Rattle.table.specs.Table.{Table, pick, of, arcs, far, inner, list}
 use Rattle.run.specs.Run.{State, amount, moved, along, leastFar, raised, top}
 use Rattle.run.proofs.Networks.{networkOf, functionsOf, Fits, by-node, by-pick, inner-same, way, far-finish, residual-room}

@@ -2,7 +2,6 @@
 use run::Choice;
 use run::Counts;
 use run::Found;
-
 ghost use mathlib.Core.Path.{_≡_};
 ghost use mathlib.Core.List.{List, _++_};
 ghost use Prim.Native.Nat.{ℕ, _+_, _-_, _*_, _^_, _≤_, _<_, min};
