@@ -1,0 +1,165 @@
+-- The desk prints at most 35,060 bytes: eight lines of 232 together; `side=` and 4 bytes for each of 512 nodes; LF, `flow=`, and 8 bytes for
+-- each of 4,096 flows; and LF. Assumes nothing.
+use Prim.Native.Nat.{ℕ, zero, suc, _+_, _*_, _/_, _%_, _^_, _<_, _≤_}
+use mathlib.Core.Path.{_≡_, refl, ap}
+use mathlib.Core.Bool.{Bool, true, false, cond}
+use mathlib.Core.List.{List, [], _∷_, _++_}
+use native.Mathlib.Nat.{pow-suc}
+use native.Mathlib.Decide.{decLt}
+use native.Mathlib.Omega.{arith}
+use lib.Dec.{ltb, eqb}
+use lib.ListN.{length, getD, drop, length-append, length-take}
+use borrow.Author.Tests.{lt-ltb, le-ltb}
+use Rattle.table.specs.declared.Name.{Name}
+use Rattle.table.specs.declared.Name.the-variants.{Nodes, Rows, Arcs, Ends, Room, Node, Loop, Capacity, Stale, Unordered, Ahead, Place, Line, Count, Long}
+use Rattle.table.specs.Table.{Table, arcs}
+use Rattle.run.specs.Run.{run}
+use Rattle.run.proofs.Ending.{run-fits, run-flow}
+use Rattle.side.specs.Side.{sideOf}
+use Rattle.planner.specs.Solving.{solution}
+use Rattle.planner.proofs.Solved.{solved-marks}
+use Rattle.text.specs.declared.Answer.{Answer}
+use Rattle.text.specs.declared.Answer.the-variants.{Read, Refusal}
+use Rattle.text.specs.Reading.{answerOf}
+use Rattle.report.specs.declared.Summary.{Summary}
+use Rattle.report.specs.Printed.{digitsOf, further, spaced, marked, numberLines, solvedText, nameText, refusedText}
+use Rattle.counter.specs.Desk.{tableIn, summaryOf, tableText, answerText, deskText}
+use Rattle.counter.proofs.Accepting.{Passes, read-accepts}
+use Rattle.counter.proofs.Solves.{accepted, few-nodes, few-arcs}
+
+-- ---- numbers
+
+-- one digit, or the digits before the last and the last
+digits-by : (small : Bool) (most : ℕ) (one : ℕ) (more : List ℕ) (last : ℕ) → length more ≤ most → length (cond small (one ∷ []) (more ++ (last ∷ []))) ≤ suc most
+digits-by true most one more last h = omega arith
+digits-by false most one more last h = rw length-append (omega arith)
+
+-- a number has at most as many digits as its bound says
+digits-most : (most n : ℕ) → length (digitsOf most n) ≤ most
+unfolding digitsOf
+digits-most zero n = omega arith
+digits-most (suc most) n = digits-by (ltb n 10) most (48 + n) (digitsOf most (n / 10)) (48 + n % 10) (digits-most most (n / 10))
+
+-- a number below 10 to the k has at most k digits
+digits-below : (most n k : ℕ) → n < 10 ^ suc k → Dec (n < 10) → length (digitsOf most n) ≤ suc k
+unfolding digitsOf
+digits-below zero n k h d = omega arith
+digits-below (suc most) n k h (yes small) = rw (lt-ltb n 10 small) (omega arith)
+digits-below (suc most) n zero h (no large) = absurd (large h)
+digits-below (suc most) n (suc k) h (no large) =
+    let p : 10 ^ suc (suc k) ≡ 10 ^ suc k * 10 = pow-suc 10 (suc k) in
+    let more = digits-below most (n / 10) k (omega arith) (decLt (n / 10) 10) in
+    rw (le-ltb n 10 (omega arith), length-append) (omega arith)
+
+-- and a blank before them
+further-length : (some : Bool) (n k : ℕ) → n < 10 ^ suc k → length (further some n) ≤ suc (suc k)
+further-length true n k h = omega (arith, digits-below 20 n k h (decLt n 10))
+further-length false n k h = omega (arith, digits-below 20 n k h (decLt n 10))
+
+-- ---- lists of numbers
+
+-- flows up to 1,000,000 take 8 bytes each
+flows-length : (some : Bool) (flows : List ℕ) → ((k : ℕ) → k < length flows → getD flows k 0 ≤ 1000000) → length (spaced some flows) ≤ 8 * length flows
+unfolding spaced
+flows-length some [] h = omega arith
+flows-length some (flow ∷ rest) h =
+    let one = further-length some flow 6 (omega (arith, h 0 (omega arith))) in
+    let more = flows-length true rest (λ k l. h (suc k) (omega arith)) in
+    rw length-append (omega arith)
+
+-- a node below 1,000, if it is marked, takes 4
+mark-length : (is : Bool) (some : Bool) (k : ℕ) (rest : List ℕ) (bound : ℕ) → k < 1000 → ((before : Bool) → length (spaced before rest) ≤ bound)
+    → length (spaced some (cond is (k ∷ rest) rest)) ≤ bound + 4
+unfolding spaced
+mark-length true some k rest bound h more =
+    let one = further-length some k 2 (omega arith) in
+    let later = more true in
+    rw length-append (omega arith)
+mark-length false some k rest bound h more = omega (arith, more some)
+
+-- and so does each node of a side
+marks-length : (side : List ℕ) (k : ℕ) (some : Bool) → k + length side ≤ 1000 → length (spaced some (marked k side)) ≤ 4 * length side
+unfolding spaced marked
+marks-length [] k some h = omega arith
+marks-length (mark ∷ rest) k some h =
+    omega (arith, mark-length (eqb mark 1) some k (marked (suc k) rest) (4 * length rest) (omega arith) (λ before. marks-length rest (suc k) before (omega arith)))
+
+-- ---- what is printed
+
+-- each of the eight lines takes its name, at most 20 digits, and LF
+lines-length : (r : Summary) → length (numberLines r) ≤ 232
+unfolding numberLines
+lines-length r =
+    simp length-append
+    (omega (
+      arith,
+      digits-most 20 (r .n),
+      digits-most 20 (r .m),
+      digits-most 20 (r .value),
+      digits-most 20 (r .scale),
+      digits-most 20 (r .phases),
+      digits-most 20 (r .saturating),
+      digits-most 20 (r .nonsaturating),
+      digits-most 20 (r .relabels),
+    ))
+
+-- the ten lines of a table within document 01's bounds
+solved-length : (r : Summary) (side flow : List ℕ) → length side ≤ 512 → length flow ≤ 4096 → ((k : ℕ) → k < length flow → getD flow k 0 ≤ 1000000)
+    → length (solvedText r side flow) ≤ 35060
+unfolding solvedText
+solved-length r side flow few-nodes few-arcs small =
+    simp length-append
+    (omega (arith, lines-length r, marks-length side 1 false (omega arith), flows-length false flow small))
+
+-- the longest name is UNORDERED
+name-length : (name : Name) → length (nameText name) ≤ 9
+unfolding nameText
+name-length Nodes = omega arith
+name-length Rows = omega arith
+name-length Arcs = omega arith
+name-length Ends = omega arith
+name-length Room = omega arith
+name-length Node = omega arith
+name-length Loop = omega arith
+name-length Capacity = omega arith
+name-length Stale = omega arith
+name-length Unordered = omega arith
+name-length Ahead = omega arith
+name-length Place = omega arith
+name-length Line = omega arith
+name-length Count = omega arith
+name-length Long = omega arith
+
+-- the two lines of a refusal
+refused-length : (name : Name) (place : ℕ) → length (refusedText name place) ≤ 35060
+unfolding refusedText
+refused-length name place = simp length-append (omega (arith, name-length name, digits-most 20 place))
+
+-- a solved table: no flow is above its capacity
+table-length : (t : Table) → Passes t → length (tableText t) ≤ 35060
+unfolding tableText
+table-length t ok =
+    let flow = run t .state .flow in
+    let side = sideOf t flow in
+    let taken = accepted t ok in
+    let marks = ap length (solved-marks t taken []) in
+    let cut = length-take (t .nodes) (side ++ drop (t .nodes) []) in
+    let flows = run-fits t taken .flow in
+    solved-length (summaryOf (t .nodes) (arcs t) (solution t 0)) side flow (omega (arith, few-nodes t ok)) (omega (arith, few-arcs t ok))
+    (λ k l. omega (arith, run-flow t taken .within k (omega arith), taken .rows .cap-bound k (omega arith)))
+
+-- what was read, or refused
+answer-length : (text : List ℕ) (a : Answer) → answerOf text 4096 4096 4096 ≡ a → length (answerText text a) ≤ 35060
+unfolding answerText
+answer-length text (Read n m s t) e = table-length (tableIn text n s t) (read-accepts text 4096 4096 4096 e .passes)
+answer-length text (Refusal name place) e = refused-length name place
+
+-- one of two texts
+either-length : (long : Bool) (a b : List ℕ) → length a ≤ 35060 → length b ≤ 35060 → length (cond long a b) ≤ 35060
+either-length true a b p q = p
+either-length false a b p q = q
+
+-- any text
+pub desk-length : (text : List ℕ) → length (deskText text) ≤ 35060
+unfolding deskText
+desk-length text = either-length (ltb 65536 (length text)) _ _ (refused-length Long 0) (answer-length text (answerOf text 4096 4096 4096) refl)
