@@ -1,5 +1,5 @@
 -- The desk prints at most 35,060 bytes: eight lines of 232 together; `side=` and 4 bytes for each of 512 nodes; LF, `flow=`, and 8 bytes for
--- each of 4,096 flows; and LF. Assumes nothing.
+-- each of 4,096 flows; and LF.
 use Prim.Native.Nat.{ℕ, zero, suc, _+_, _*_, _/_, _%_, _^_, _<_, _≤_}
 use mathlib.Core.Path.{_≡_, refl, ap}
 use mathlib.Core.Bool.{Bool, true, false, cond}
@@ -13,34 +13,36 @@ use borrow.Author.Tests.{lt-ltb, le-ltb}
 use Rattle.table.specs.declared.Name.{Name}
 use Rattle.table.specs.declared.Name.the-variants.{Nodes, Rows, Arcs, Ends, Room, Node, Loop, Capacity, Stale, Unordered, Ahead, Place, Line, Count, Long}
 use Rattle.table.specs.Table.{Table, arcs}
-use Rattle.run.specs.Run.{run}
-use Rattle.run.proofs.Ending.{run-fits, run-flow}
+use Rattle.run.specs.Phase.{run}
+use Rattle.run.proofs.Whole.{run-fits}
+use Rattle.run.proofs.Answers.{run-best}
 use Rattle.side.specs.Side.{sideOf}
 use Rattle.planner.specs.Solving.{solution}
 use Rattle.planner.proofs.Solved.{solved-marks}
-use Rattle.text.specs.declared.Answer.{Answer}
-use Rattle.text.specs.declared.Answer.the-variants.{Read, Refusal}
-use Rattle.text.specs.Reading.{answerOf}
+use Rattle.text.specs.declared.Given.{Given}
+use Rattle.text.specs.declared.Given.the-variants.{Read, Refusal}
+use Rattle.scan.specs.Parts.{lines}
+use Rattle.text.specs.Reading.{tableIn, givenBy}
+use Rattle.text.proofs.Accepting.{read-accepts}
 use Rattle.report.specs.declared.Summary.{Summary}
-use Rattle.report.specs.Printed.{digitsOf, further, spaced, marked, numberLines, solvedText, nameText, refusedText}
-use Rattle.counter.specs.Desk.{tableIn, summaryOf, tableText, answerText, deskText}
-use Rattle.counter.proofs.Accepting.{Passes, read-accepts}
-use Rattle.counter.proofs.Solves.{accepted, few-nodes, few-arcs}
+use Rattle.report.specs.Printed.{digitsOf, further, spaced, markedNodes, numberLines, solvedText, nameText, refusedText}
+use Rattle.counter.specs.Desk.{summaryOf, tableText, answerText, deskText}
+use Rattle.counter.proofs.Solves.{Passes, accepted, few-nodes, few-arcs}
 
 -- ---- numbers
 
--- one digit, or the digits before the last and the last
+-- One digit, or the digits before the last and the last.
 digits-by : (small : Bool) (most : ℕ) (one : ℕ) (more : List ℕ) (last : ℕ) → length more ≤ most → length (cond small (one ∷ []) (more ++ (last ∷ []))) ≤ suc most
 digits-by true most one more last h = omega arith
 digits-by false most one more last h = rw length-append (omega arith)
 
--- a number has at most as many digits as its bound says
+-- A number has at most as many digits as its bound says.
 digits-most : (most n : ℕ) → length (digitsOf most n) ≤ most
 unfolding digitsOf
 digits-most zero n = omega arith
 digits-most (suc most) n = digits-by (ltb n 10) most (48 + n) (digitsOf most (n / 10)) (48 + n % 10) (digits-most most (n / 10))
 
--- a number below 10 to the k has at most k digits
+-- A number below 10 to the k has at most k digits.
 digits-below : (most n k : ℕ) → n < 10 ^ suc k → Dec (n < 10) → length (digitsOf most n) ≤ suc k
 unfolding digitsOf
 digits-below zero n k h d = omega arith
@@ -51,14 +53,14 @@ digits-below (suc most) n (suc k) h (no large) =
     let more = digits-below most (n / 10) k (omega arith) (decLt (n / 10) 10) in
     rw (le-ltb n 10 (omega arith), length-append) (omega arith)
 
--- and a blank before them
+-- A number that follows another has a blank before its digits.
 further-length : (some : Bool) (n k : ℕ) → n < 10 ^ suc k → length (further some n) ≤ suc (suc k)
 further-length true n k h = omega (arith, digits-below 20 n k h (decLt n 10))
 further-length false n k h = omega (arith, digits-below 20 n k h (decLt n 10))
 
 -- ---- lists of numbers
 
--- flows up to 1,000,000 take 8 bytes each
+-- Flows up to 1,000,000 take 8 bytes each.
 flows-length : (some : Bool) (flows : List ℕ) → ((k : ℕ) → k < length flows → getD flows k 0 ≤ 1000000) → length (spaced some flows) ≤ 8 * length flows
 unfolding spaced
 flows-length some [] h = omega arith
@@ -67,7 +69,7 @@ flows-length some (flow ∷ rest) h =
     let more = flows-length true rest (λ k l. h (suc k) (omega arith)) in
     rw length-append (omega arith)
 
--- a node below 1,000, if it is marked, takes 4
+-- A node below 1,000, if it is marked, takes 4.
 mark-length : (is : Bool) (some : Bool) (k : ℕ) (rest : List ℕ) (bound : ℕ) → k < 1000 → ((before : Bool) → length (spaced before rest) ≤ bound)
     → length (spaced some (cond is (k ∷ rest) rest)) ≤ bound + 4
 unfolding spaced
@@ -77,16 +79,16 @@ mark-length true some k rest bound h more =
     rw length-append (omega arith)
 mark-length false some k rest bound h more = omega (arith, more some)
 
--- and so does each node of a side
-marks-length : (side : List ℕ) (k : ℕ) (some : Bool) → k + length side ≤ 1000 → length (spaced some (marked k side)) ≤ 4 * length side
-unfolding spaced marked
+-- So all nodes of a side below 1,000 take at most 4 each.
+marks-length : (side : List ℕ) (k : ℕ) (some : Bool) → k + length side ≤ 1000 → length (spaced some (markedNodes k side)) ≤ 4 * length side
+unfolding spaced markedNodes
 marks-length [] k some h = omega arith
 marks-length (mark ∷ rest) k some h =
-    omega (arith, mark-length (eqb mark 1) some k (marked (suc k) rest) (4 * length rest) (omega arith) (λ before. marks-length rest (suc k) before (omega arith)))
+    omega (arith, mark-length (eqb mark 1) some k (markedNodes (suc k) rest) (4 * length rest) (omega arith) (λ before. marks-length rest (suc k) before (omega arith)))
 
 -- ---- what is printed
 
--- each of the eight lines takes its name, at most 20 digits, and LF
+-- Each of the eight lines takes its name, at most 20 digits, and LF.
 lines-length : (r : Summary) → length (numberLines r) ≤ 232
 unfolding numberLines
 lines-length r =
@@ -103,7 +105,7 @@ lines-length r =
       digits-most 20 (r .relabels),
     ))
 
--- the ten lines of a table within document 01's bounds
+-- The ten lines of a table within document 01's bounds.
 solved-length : (r : Summary) (side flow : List ℕ) → length side ≤ 512 → length flow ≤ 4096 → ((k : ℕ) → k < length flow → getD flow k 0 ≤ 1000000)
     → length (solvedText r side flow) ≤ 35060
 unfolding solvedText
@@ -111,7 +113,7 @@ solved-length r side flow few-nodes few-arcs small =
     simp length-append
     (omega (arith, lines-length r, marks-length side 1 false (omega arith), flows-length false flow small))
 
--- the longest name is UNORDERED
+-- The longest name is UNORDERED.
 name-length : (name : Name) → length (nameText name) ≤ 9
 unfolding nameText
 name-length Nodes = omega arith
@@ -130,12 +132,12 @@ name-length Line = omega arith
 name-length Count = omega arith
 name-length Long = omega arith
 
--- the two lines of a refusal
+-- The two lines of a refusal.
 refused-length : (name : Name) (place : ℕ) → length (refusedText name place) ≤ 35060
 unfolding refusedText
 refused-length name place = simp length-append (omega (arith, name-length name, digits-most 20 place))
 
--- a solved table: no flow is above its capacity
+-- A solved table: no flow is above its capacity.
 table-length : (t : Table) → Passes t → length (tableText t) ≤ 35060
 unfolding tableText
 table-length t ok =
@@ -146,20 +148,20 @@ table-length t ok =
     let cut = length-take (t .nodes) (side ++ drop (t .nodes) []) in
     let flows = run-fits t taken .flow in
     solved-length (summaryOf (t .nodes) (arcs t) (solution t 0)) side flow (omega (arith, few-nodes t ok)) (omega (arith, few-arcs t ok))
-    (λ k l. omega (arith, run-flow t taken .within k (omega arith), taken .rows .cap-bound k (omega arith)))
+    (λ k l. omega (arith, run-best t taken .answer .valid .high k (omega arith), taken .rows .small k (omega arith)))
 
--- what was read, or refused
-answer-length : (text : List ℕ) (a : Answer) → answerOf text 4096 4096 4096 ≡ a → length (answerText text a) ≤ 35060
+-- What was read, or refused.
+answer-length : (text : List ℕ) (a : Given) → givenBy text 4096 4096 4096 ≡ a → length (answerText text a) ≤ 35060
 unfolding answerText
-answer-length text (Read n m s t) e = table-length (tableIn text n s t) (read-accepts text 4096 4096 4096 e .passes)
+answer-length text (Read n m s t) e = table-length (tableIn (lines text) n s t) (read-accepts text 4096 4096 4096 e .passes)
 answer-length text (Refusal name place) e = refused-length name place
 
--- one of two texts
+-- One of two texts.
 either-length : (long : Bool) (a b : List ℕ) → length a ≤ 35060 → length b ≤ 35060 → length (cond long a b) ≤ 35060
 either-length true a b p q = p
 either-length false a b p q = q
 
--- any text
+-- Any text.
 pub desk-length : (text : List ℕ) → length (deskText text) ≤ 35060
 unfolding deskText
-desk-length text = either-length (ltb 65536 (length text)) _ _ (refused-length Long 0) (answer-length text (answerOf text 4096 4096 4096) refl)
+desk-length text = either-length (ltb 65536 (length text)) _ _ (refused-length Long 0) (answer-length text (givenBy text 4096 4096 4096) refl)

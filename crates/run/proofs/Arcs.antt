@@ -1,24 +1,27 @@
--- What the arc search and the relabel's least label answer. Assumes nothing.
+-- What the arc search and the relabel's least label answer.
 use Prim.Native.Nat.{ℕ, _+_, _≤_, _<_, min}
 use mathlib.Core.Path.{_≡_, refl, ap, ap₂, sym, subst, _∙_}
-use mathlib.Core.Bool.{Bool, true, false, true≢false}
+use mathlib.Core.Bool.{Bool, true, false, true≢false, _||_, _&&_}
 use mathlib.Core.List.{List, [], _∷_, List·Memᴰ, List·Memᴰ·not-nil, List·Memᴰ·cases-cons}
 use mathlib.Core.List.List·Memᴰ.{List·Memᴰ·head, List·Memᴰ·tail}
 use mathlib.Core.Logic.{_⊎_, inl, inr, ⊎-elim}
 use native.Mathlib.Omega.{arith}
 use borrow.Author.Tests.{ltb-true, ltb-false, lt-ltb, eqb-true, eq-eqb, ne-eqb}
 use lib.Dec.{eqb, ltb}
-use Rattle.rows.specs.Sum.{atNode, atPlace}
-use Rattle.rows.specs.Sum.{Node as NodeOf}
-use Rattle.rows.proofs.Sums.{by-test}
-use Rattle.network.specs.Network.{Sound, ResidualFrom, start, finish, room}
-use Rattle.network.specs.Run.{Eligible, NewLabel}
-use Rattle.network.proofs.Cuts.{finish-node}
-use Rattle.table.specs.Table.{Table, pick, of, arcs, tail, head, far, residual, touches, list}
-use Rattle.run.specs.Run.{State, eligible, firstEligible, lesser, leastFar, top}
+use Rattle.rows.specs.Row.{atNode, atPlace}
+use Rattle.rows.specs.Row.{Node as NodeOf}
+use Rattle.rows.proofs.Sums.{by-test, both-true}
+use Rattle.network.specs.Network.{start, finish, room}
+use Rattle.network.proofs.Notions.{Sound, ResidualFrom, finish-node}
+use Rattle.network.proofs.Steps.{Eligible, NewLabel}
+use Rattle.table.specs.Table.{Table, arcs, tail, head, networkOf}
+use Rattle.run.specs.Residual.{way, far, residual, touches, list}
+use Rattle.run.specs.Start.{State}
+use Rattle.run.specs.Push.{eligible, firstEligible}
+use Rattle.run.specs.Relabel.{lesser, leastFar, top, newLabel}
 use Rattle.run.specs.declared.Found.{Found}
 use Rattle.run.specs.declared.Found.the-variants.{Place, Missing}
-use Rattle.run.proofs.Networks.{networkOf, functionsOf, by-node, by-pick, way, far-finish, residual-room}
+use Rattle.run.proofs.Networks.{functionsOf, by-cond}
 use Rattle.run.proofs.Members.{list-touches, touches-list}
 
 module _ (t : Table) (st : State) (i : ℕ) where
@@ -32,11 +35,12 @@ module _ (t : Table) (st : State) (i : ℕ) where
   finds-on k l (Place j) e (member, yes′) = (List·Memᴰ·tail member, yes′)
   finds-on k l Missing e none = λ j member. ⊎-elim (λ same. ap (eligible t st i) same ∙ e) (none j) (List·Memᴰ·cases-cons member)
 
+  -- The search for an eligible arc answers so.
   finds : (l : List ℕ) → Finds l (firstEligible t st i l)
   unfolding firstEligible
   finds [] = λ k member. absurd (List·Memᴰ·not-nil member)
   finds (k ∷ l) =
-      by-pick (Finds (k ∷ l)) (eligible t st i k) (Place k) (firstEligible t st i l)
+      by-cond (Finds (k ∷ l)) (eligible t st i k) (Place k) (firstEligible t st i l)
       (λ e. (List·Memᴰ·head refl, e)) (λ e. finds-on k l (firstEligible t st i l) e (finds l))
 
   -- The place found is in the list and eligible.
@@ -44,18 +48,19 @@ module _ (t : Table) (st : State) (i : ℕ) where
   found-place l k e = subst (Finds l) e (finds l)
 
   -- Where none is found no member is eligible.
-  pub found-missing : (l : List ℕ) → firstEligible t st i l ≡ Missing → (k : ℕ) → List·Memᴰ k l → eligible t st i k ≡ false
+  found-missing : (l : List ℕ) → firstEligible t st i l ≡ Missing → (k : ℕ) → List·Memᴰ k l → eligible t st i k ≡ false
   found-missing l e = subst (Finds l) e (finds l)
 
-  -- One place's part in the least label: it does not raise it, takes its far end's label in where it has residual, and is one of the two.
+  -- One place does not raise the least label.
   lesser-le : (k best : ℕ) → lesser t st i k best ≤ best
   lesser-le k best =
-      by-pick (λ x. x ≤ best) (ltb 0 (residual t (st .flow) i k)) (min best (of (st .label) (far t i k))) best
+      by-cond (λ x. x ≤ best) (ltb 0 (residual t (st .flow) i k)) (min best (atNode (st .label) (far t i k))) best
       (λ _. omega arith) (λ _. omega arith)
 
-  lesser-far : (k best : ℕ) → 0 < residual t (st .flow) i k → lesser t st i k best ≤ of (st .label) (far t i k)
+  -- Where it has residual, the least label is at most its far end's.
+  lesser-far : (k best : ℕ) → 0 < residual t (st .flow) i k → lesser t st i k best ≤ atNode (st .label) (far t i k)
   lesser-far k best some =
-      by-pick (λ x. x ≤ of (st .label) (far t i k)) (ltb 0 (residual t (st .flow) i k)) (min best (of (st .label) (far t i k))) best
+      by-cond (λ x. x ≤ atNode (st .label) (far t i k)) (ltb 0 (residual t (st .flow) i k)) (min best (atNode (st .label) (far t i k))) best
       (λ _. omega arith) (λ e. absurd (omega (arith, ltb-false 0 (residual t (st .flow) i k) e)))
 
   -- The least label of a list is at most the one that it began with,
@@ -64,8 +69,8 @@ module _ (t : Table) (st : State) (i : ℕ) where
   least-le [] best = omega arith
   least-le (k ∷ l) best = omega (arith, least-le l (lesser t st i k best), lesser-le k best)
 
-  -- at most each residual member's far label,
-  pub least-far : (l : List ℕ) (best k : ℕ) → List·Memᴰ k l → 0 < residual t (st .flow) i k → leastFar t st i l best ≤ of (st .label) (far t i k)
+  -- and at most each residual member's far label.
+  least-far : (l : List ℕ) (best k : ℕ) → List·Memᴰ k l → 0 < residual t (st .flow) i k → leastFar t st i l best ≤ atNode (st .label) (far t i k)
   unfolding leastFar
   least-far [] best k member some = absurd (List·Memᴰ·not-nil member)
   least-far (j ∷ l) best k member some =
@@ -75,7 +80,7 @@ module _ (t : Table) (st : State) (i : ℕ) where
         arith,
         least-le l (lesser t st i j best),
         lesser-far j best (subst (λ (x : ℕ). 0 < residual t (st .flow) i x) same some),
-        ap (λ x. of (st .label) (far t i x)) same,
+        ap (λ x. atNode (st .label) (far t i x)) same,
       ))
       (λ later. least-far l (lesser t st i j best) k later some)
       (List·Memᴰ·cases-cons member)
@@ -85,32 +90,33 @@ module _ (t : Table) (st : State) (i : ℕ) where
     pub place : ℕ
     pub member : List·Memᴰ place l
     pub left : 0 < residual t (st .flow) i place
-    pub label : x ≡ of (st .label) (far t i place)
+    pub label : x ≡ atNode (st .label) (far t i place)
 
+  -- The least label after one place is the one before, or its far end's.
   lesser-is : (k best : ℕ) (l : List ℕ) → (lesser t st i k best ≡ best) ⊎ Reached (k ∷ l) (lesser t st i k best)
   lesser-is k best l =
-      by-pick (λ x. (x ≡ best) ⊎ Reached (k ∷ l) x) (ltb 0 (residual t (st .flow) i k)) (min best (of (st .label) (far t i k))) best
+      by-cond (λ x. (x ≡ best) ⊎ Reached (k ∷ l) x) (ltb 0 (residual t (st .flow) i k)) (min best (atNode (st .label) (far t i k))) best
       (λ e. taken (ltb-true 0 (residual t (st .flow) i k) e)) (λ _. inl refl)
     where
-      taken : 0 < residual t (st .flow) i k → (min best (of (st .label) (far t i k)) ≡ best) ⊎ Reached (k ∷ l) (min best (of (st .label) (far t i k)))
+      taken : 0 < residual t (st .flow) i k → (min best (atNode (st .label) (far t i k)) ≡ best) ⊎ Reached (k ∷ l) (min best (atNode (st .label) (far t i k)))
       taken some =
-          by-test (ltb best (of (st .label) (far t i k)))
-          (λ e. inl (omega (arith, ltb-true best (of (st .label) (far t i k)) e)))
+          by-test (ltb best (atNode (st .label) (far t i k)))
+          (λ e. inl (omega (arith, ltb-true best (atNode (st .label) (far t i k)) e)))
           (λ e.
           inr
           (record {
             place = k;
             member = List·Memᴰ·head refl;
             left = some;
-            label = omega (arith, ltb-false best (of (st .label) (far t i k)) e);
+            label = omega (arith, ltb-false best (atNode (st .label) (far t i k)) e);
           }))
 
   -- What a list reaches a longer one does.
   reached-on : (k x : ℕ) (l : List ℕ) → Reached l x → Reached (k ∷ l) x
   reached-on k x l r = record { place = r .place; member = List·Memᴰ·tail (r .member); left = r .left; label = r .label }
 
-  -- and one of those, or the one that it began with.
-  pub least-is : (l : List ℕ) (best : ℕ) → (leastFar t st i l best ≡ best) ⊎ Reached l (leastFar t st i l best)
+  -- The least is the far label of a residual member, or the one that it began with.
+  least-is : (l : List ℕ) (best : ℕ) → (leastFar t st i l best ≡ best) ⊎ Reached l (leastFar t st i l best)
   unfolding leastFar
   least-is [] best = inl refl
   least-is (k ∷ l) best =
@@ -122,96 +128,80 @@ module _ (t : Table) (st : State) (i : ℕ) where
       (λ later. inr (reached-on k (leastFar t st i l (lesser t st i k best)) l later))
       (least-is l (lesser t st i k best))
 
--- The arcs that touch node i, in the network's words: each is taken from i in one way.
-pub way-start : (t : Table) (i k : ℕ) → touches t i k ≡ true → start (networkOf t) k (way t i k) ≡ i
+-- An arc that touches node i is taken from i.
+way-start : (t : Table) (i k : ℕ) → touches t i k ≡ true → start (networkOf t) k (way t i k) ≡ i
 way-start t i k e =
     by-test (way t i k)
     (λ p. ap (start (networkOf t) k) p ∙ eqb-true (tail t k) i p)
-    (λ p. ap (start (networkOf t) k) p ∙ eqb-true (head t k) i (ap (λ b. pick b true (eqb (head t k) i)) (sym p) ∙ e))
+    (λ p. ap (start (networkOf t) k) p ∙ eqb-true (head t k) i (ap (λ b. b || eqb (head t k) i) (sym p) ∙ e))
 
-pub start-way : (t : Table) → Sound (networkOf t) → (i k : ℕ) (b : Bool) → k < arcs t → start (networkOf t) k b ≡ i → way t i k ≡ b
+-- What is taken from i is taken in this way,
+start-way : (t : Table) → Sound (networkOf t) → (i k : ℕ) (b : Bool) → k < arcs t → start (networkOf t) k b ≡ i → way t i k ≡ b
 start-way t sound i k true l e = eq-eqb (tail t k) i e
 start-way t sound i k false l e = ne-eqb (tail t k) i (λ p. sound .loopless k l (p ∙ sym e))
 
-pub start-touches : (t : Table) → Sound (networkOf t) → (i k : ℕ) (b : Bool) → k < arcs t → start (networkOf t) k b ≡ i → touches t i k ≡ true
-start-touches t sound i k true l e = ap (λ x. pick x true (eqb (head t k) i)) (eq-eqb (tail t k) i e)
-start-touches t sound i k false l e = ap₂ (λ x y. pick x true y) (start-way t sound i k false l e) (eq-eqb (head t k) i e)
+-- and touches i.
+start-touches : (t : Table) (i k : ℕ) (b : Bool) → start (networkOf t) k b ≡ i → touches t i k ≡ true
+start-touches t i k true e = ap (λ x. x || eqb (head t k) i) (eq-eqb (tail t k) i e)
+start-touches t i k false e = ap (λ x. way t i k || x) (eq-eqb (head t k) i e) ∙ or-true (way t i k)
+  where
+    or-true : (b : Bool) → b || true ≡ true
+    or-true true = refl
+    or-true false = refl
 
-module _ (t : Table) (sound : Sound (networkOf t)) (st : State) (i : ℕ) (v : NodeOf (t .nodes) i) where
-  -- A member of node i's list is taken from i.
-  pub member-start : {k : ℕ} → List·Memᴰ k (list t i) → start (networkOf t) k (way t i k) ≡ i
-  member-start {k} member = way-start t i k (list-touches t i member .1)
+-- A member of node i's list is taken from i.
+pub member-start : (t : Table) (i : ℕ) {k : ℕ} → List·Memᴰ k (list t i) → start (networkOf t) k (way t i k) ≡ i
+member-start t i {k} member = way-start t i k (list-touches t i member .1)
 
-  -- The label at the far end, in the network's words.
-  far-label : (k : ℕ) → k < arcs t → atNode (st .label) (finish (networkOf t) k (way t i k)) ≡ of (st .label) (far t i k)
-  far-label k l =
-      by-node (st .label) (finish (networkOf t) k (way t i k)) (t .nodes) (finish-node (networkOf t) sound k (way t i k) l)
-      ∙ ap (of (st .label)) (far-finish t i k)
-
+module _ (t : Table) (sound : Sound (networkOf t)) (st : State) (i : ℕ) where
   -- The arc found is the theory's: with residual above 0 and a far end exactly one lower.
   pub eligible-arc : (k : ℕ) → List·Memᴰ k (list t i) → eligible t st i k ≡ true → Eligible (networkOf t) (functionsOf st) k (way t i k)
   eligible-arc k member e =
-      by-test (ltb 0 (residual t (st .flow) i k)) some
-      (λ p. absurd (true≢false (sym e ∙ ap (λ b. pick b (eqb (of (st .label) (far t i k) + 1) (of (st .label) i)) false) p)))
-    where
-      below : k < arcs t
-      below = list-touches t i member .0
-
-      some : ltb 0 (residual t (st .flow) i k) ≡ true → Eligible (networkOf t) (functionsOf st) k (way t i k)
-      some p =
-          record {
-            below = below;
-            left = omega (arith, residual-room t (st .flow) i k, ltb-true 0 (residual t (st .flow) i k) p);
-            down =
-                omega (
-                  arith,
-                  ap (atNode (st .label)) (member-start member),
-                  by-node (st .label) i (t .nodes) v,
-                  far-label k below,
-                  eqb-true (of (st .label) (far t i k) + 1) (of (st .label) i)
-                      (ap (λ b. pick b (eqb (of (st .label) (far t i k) + 1) (of (st .label) i)) false) (sym p) ∙ e),
-                );
-          }
-
-  -- What the network's residual arc out of i is to the list: a member with residual, whose far end has this label.
-  pub record Listed (k : ℕ) (b : Bool) : Type 0 where
-    pub member : List·Memᴰ k (list t i)
-    pub same : way t i k ≡ b
-    pub left : 0 < residual t (st .flow) i k
-    pub label : atNode (st .label) (finish (networkOf t) k b) ≡ of (st .label) (far t i k)
-
-  pub listed : (k : ℕ) (b : Bool) → k < arcs t → start (networkOf t) k b ≡ i → 0 < room (networkOf t) (atPlace (st .flow)) k b → Listed k b
-  listed k b l e some =
+      let (some, down) = both-true (ltb 0 (residual t (st .flow) i k)) (eqb (atNode (st .label) (far t i k) + 1) (atNode (st .label) i)) e in
       record {
-        member = touches-list t i k l (start-touches t sound i k b l e);
-        same = same;
-        left = omega (arith, residual-room t (st .flow) i k, ap (room (networkOf t) (atPlace (st .flow)) k) same);
-        label = ap (λ x. atNode (st .label) (finish (networkOf t) k x)) (sym same) ∙ far-label k l;
+        below = list-touches t i member .0;
+        left = ltb-true 0 (residual t (st .flow) i k) some;
+        down =
+            omega (
+              arith,
+              ap (atNode (st .label)) (member-start t i member),
+              eqb-true (atNode (st .label) (far t i k) + 1) (atNode (st .label) i) down,
+            );
       }
-    where
-      same : way t i k ≡ b
-      same = start-way t sound i k b l e
 
-  -- An arc in the network's words that goes down by one from i is eligible.
-  pub arc-eligible : (k : ℕ) (b : Bool) → k < arcs t → start (networkOf t) k b ≡ i → 0 < room (networkOf t) (atPlace (st .flow)) k b
-      → atNode (st .label) i ≡ atNode (st .label) (finish (networkOf t) k b) + 1 → eligible t st i k ≡ true
-  arc-eligible k b l e some down =
-      let arc : Listed k b = listed k b l e some in
-      ap (λ x. pick x (eqb (of (st .label) (far t i k) + 1) (of (st .label) i)) false) (lt-ltb 0 (residual t (st .flow) i k) (arc .left))
-      ∙ eq-eqb (of (st .label) (far t i k) + 1) (of (st .label) i) (omega (arith, arc .label, by-node (st .label) i (t .nodes) v))
+  module _ (k : ℕ) (b : Bool) (l : k < arcs t) (e : start (networkOf t) k b ≡ i) where
+    -- An arc that the network takes from i stands in i's list,
+    in-list : List·Memᴰ k (list t i)
+    in-list = touches-list t i k l (start-touches t i k b e)
+
+    -- and is taken there in the same way.
+    same-way : way t i k ≡ b
+    same-way = start-way t sound i k b l e
+
+    -- One with residual that goes down by one from i is eligible.
+    arc-eligible : 0 < room (networkOf t) (atPlace (st .flow)) k b → atNode (st .label) i ≡ atNode (st .label) (finish (networkOf t) k b) + 1
+        → eligible t st i k ≡ true
+    arc-eligible some down =
+        ap₂ _&&_
+        (lt-ltb 0 (residual t (st .flow) i k) (omega (arith, ap (room (networkOf t) (atPlace (st .flow)) k) same-way)))
+        (eq-eqb (atNode (st .label) (far t i k) + 1) (atNode (st .label) i)
+        (omega (arith, ap (λ w. atNode (st .label) (finish (networkOf t) k w)) same-way)))
+
+    -- The least label is at most the far end's.
+    low : 0 < room (networkOf t) (atPlace (st .flow)) k b → leastFar t st i (list t i) (top t) ≤ atNode (st .label) (finish (networkOf t) k b)
+    low some =
+        omega (
+          arith,
+          least-far t st i (list t i) (top t) k in-list (omega (arith, ap (room (networkOf t) (atPlace (st .flow)) k) same-way)),
+          ap (λ w. atNode (st .label) (finish (networkOf t) k w)) same-way,
+        )
 
   -- The least label is the theory's: no arc is eligible, some arc is residual and labels are below 2n, so one more is the new label.
   pub least-new-label : firstEligible t st i (list t i) ≡ Missing → ResidualFrom (networkOf t) (atPlace (st .flow)) i
       → ((j : ℕ) → NodeOf (t .nodes) j → atNode (st .label) j < top t)
-      → NewLabel (networkOf t) (functionsOf st) i (leastFar t st i (list t i) (top t) + 1)
+      → NewLabel (networkOf t) (functionsOf st) i (newLabel t st i)
   least-new-label missing out high = ⊎-elim (λ is-top. absurd (never is-top)) answer (least-is t st i (list t i) (top t))
     where
-      low : (k : ℕ) (b : Bool) → k < arcs t → start (networkOf t) k b ≡ i → 0 < room (networkOf t) (atPlace (st .flow)) k b
-          → leastFar t st i (list t i) (top t) ≤ atNode (st .label) (finish (networkOf t) k b)
-      low k b l e some =
-          let arc : Listed k b = listed k b l e some in
-          omega (arith, least-far t st i (list t i) (top t) k (arc .member) (arc .left), arc .label)
-
       never : leastFar t st i (list t i) (top t) ≡ top t → ⊥
       never is-top =
           omega (
@@ -220,21 +210,20 @@ module _ (t : Table) (sound : Sound (networkOf t)) (st : State) (i : ℕ) (v : N
             high (finish (networkOf t) (out .place) (out .way)) (finish-node (networkOf t) sound (out .place) (out .way) (out .below)),
           )
 
-      answer : Reached t st i (list t i) (leastFar t st i (list t i) (top t))
-          → NewLabel (networkOf t) (functionsOf st) i (leastFar t st i (list t i) (top t) + 1)
+      answer : Reached t st i (list t i) (leastFar t st i (list t i) (top t)) → NewLabel (networkOf t) (functionsOf st) i (newLabel t st i)
       answer r =
           record {
             stuck =
                 λ k b l e some down.
-                true≢false (sym (arc-eligible k b l e some down) ∙ found-missing t st i (list t i) missing k (listed k b l e some .member));
+                true≢false (sym (arc-eligible k b l e some down) ∙ found-missing t st i (list t i) missing k (in-list k b l e));
             least = λ k b l e some. omega (arith, low k b l e some);
             arc =
                 record {
                   place = r .place;
                   way = way t i (r .place);
                   below = list-touches t i (r .member) .0;
-                  from = member-start (r .member);
-                  left = omega (arith, r .left, residual-room t (st .flow) i (r .place));
+                  from = member-start t i (r .member);
+                  left = r .left;
                 };
-            reached = omega (arith, r .label, far-label (r .place) (list-touches t i (r .member) .0));
+            reached = ap (λ x. x + 1) (r .label);
           }

@@ -1,37 +1,32 @@
--- The scale: the least power of two not below the largest excess, and one phase for each power down from it. Assumes nothing.
-use Prim.Native.Nat.{ℕ, zero, suc, _+_, _^_, _≤_, _<_}
+-- The scale: the least power of two not below the largest excess, and one phase for each power down from it.
+use Prim.Native.Nat.{ℕ, zero, suc, _+_, _-_, _/_, _^_, _≤_, _<_}
 use mathlib.Core.Path.{_≡_, refl, sym, subst}
 use mathlib.Core.Bool.{Bool, true, false}
 use mathlib.Core.List.{List, [], _∷_}
 use native.Mathlib.Omega.{arith}
-use native.Mathlib.Nat.{one-le-pow, pow-le-pow-right}
+use native.Mathlib.Nat.{one-le-pow, pow-le-pow-right, pow-succ'}
 use borrow.Author.Tests.{leb-true, leb-false, ltb-true, ltb-false}
 use lib.Dec.{leb, ltb}
-use lib.ListN.{length, getD}
+use lib.ListN.{getD}
 use Rattle.rows.proofs.Sums.{by-test, by-equal}
-use Rattle.run.specs.Run.{largest, doublings, phasesFor, scaleOf}
-use Rattle.run.specs.Flows.{Scaled}
+use Rattle.run.specs.Scale.{largest, doublings, phasesFor, scaleOf}
+use Rattle.run.specs.Demands.{Scaled}
 
--- No number of a row is above the largest,
+-- No number of a row is above the largest.
 pub largest-most : (row : List ℕ) (k : ℕ) → getD row k 0 ≤ largest row
 unfolding largest
 largest-most [] k = omega arith
 largest-most (x ∷ row) zero = omega arith
 largest-most (x ∷ row) (suc k) = omega (arith, largest-most row k)
 
--- and the largest is at most what bounds each.
-pub largest-least : (row : List ℕ) (b : ℕ) → ((k : ℕ) → k < length row → getD row k 0 ≤ b) → largest row ≤ b
-unfolding largest
-largest-least [] b h = omega arith
-largest-least (x ∷ row) b h = omega (arith, h 0 (omega arith), largest-least row b (λ k l. h (suc k) (omega arith)))
-
 -- The number of doublings is the first power, from j on, that is not below x; the fuel suffices where it reaches one.
-pub record Doubled (x j d : ℕ) : Type 0 where
+record Doubled (x j d : ℕ) : Type 0 where
   pub from : j ≤ d
   pub reaches : x ≤ 2 ^ d
   pub first : (i : ℕ) → j ≤ i → i < d → 2 ^ i < x
 
-pub doubled : (x left j : ℕ) → x ≤ 2 ^ (j + left) → Doubled x j (doublings x left j)
+-- It is, where the fuel suffices.
+doubled : (x left j : ℕ) → x ≤ 2 ^ (j + left) → Doubled x j (doublings x left j)
 unfolding doublings
 doubled x zero j h = record { from = omega arith; reaches = subst (λ (e : ℕ). x ≤ 2 ^ e) (omega arith) h; first = λ i a b. absurd (omega arith) }
 doubled x (suc left) j h = go (leb x (2 ^ j)) refl (doubled x left (suc j) (subst (λ (e : ℕ). x ≤ 2 ^ e) (omega arith) h))
@@ -68,7 +63,7 @@ scaled (suc x) h =
       least = λ i l. doubled-least (suc x) (doublings (suc x) 32 0) i (doubled (suc x) 32 0 h) l;
     }
 
--- There are at most 33 phases.
+-- The doublings counted are at most those there was leave for.
 doublings-most : (x left j : ℕ) → doublings x left j ≤ j + left
 unfolding doublings
 doublings-most x zero j = omega arith
@@ -78,24 +73,21 @@ doublings-most x (suc left) j = go (leb x (2 ^ j)) (doublings-most x left (suc j
     go true on = omega arith
     go false on = omega arith
 
+-- There are at most 33 phases.
 pub phases-most : (x : ℕ) → phasesFor x ≤ 33
 unfolding phasesFor
 phases-most zero = omega arith
 phases-most (suc x) = omega (arith, doublings-most (suc x) 32 0)
 
--- Delta is 0 exactly where no phase is left,
-pub no-scale : (j : ℕ) → scaleOf j ≡ 0 → j ≡ 0
+-- Delta is above 0 where a phase is left,
+pub some-scale : (j : ℕ) → 0 < j → 0 < scaleOf j
 unfolding scaleOf
-no-scale zero e = refl
-no-scale (suc j) e = absurd (omega (arith, one-le-pow j 2 (omega arith)))
+some-scale zero some = absurd (omega arith)
+some-scale (suc j) some = one-le-pow j 2 (omega arith)
 
--- and above 0 exactly where one is.
-pub some-scale : (j : ℕ) → 0 < scaleOf j → 0 < j
+-- and halved by each phase.
+pub halved : (j : ℕ) → 0 < j → scaleOf j / 2 ≡ scaleOf (j - 1)
 unfolding scaleOf
-some-scale zero e = absurd (omega arith)
-some-scale (suc j) e = omega arith
-
--- With one more phase left Delta is the next power.
-pub scale-next : (j : ℕ) → scaleOf (suc j) ≡ 2 ^ j
-unfolding scaleOf
-scale-next j = refl
+halved zero some = absurd (omega arith)
+halved (suc zero) some = refl
+halved (suc (suc j)) some = let less : suc (suc j) - 1 ≡ suc j = omega arith in rw less (omega (arith, pow-succ' 2 j))

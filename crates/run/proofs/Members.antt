@@ -1,7 +1,7 @@
--- A node's list: it has exactly the places whose arcs touch the node. Assumes nothing.
+-- A node's list: it has exactly the places whose arcs touch the node.
 use Prim.Native.Nat.{ℕ, zero, suc, _<_}
 use mathlib.Core.Path.{_≡_, refl, ap, sym, subst, _∙_}
-use mathlib.Core.Bool.{Bool, true, false}
+use mathlib.Core.Bool.{Bool, true, false, cond}
 use mathlib.Core.List.{List, [], _∷_, _++_, List·Memᴰ, Memᴰ·append-left, Memᴰ·append-right}
 use mathlib.Core.List.{List·Memᴰ·append-cases, List·Memᴰ·eq-of-singleton, List·Memᴰ·not-nil}
 use mathlib.Core.List.List·Memᴰ.{List·Memᴰ·head, List·Memᴰ·tail}
@@ -9,23 +9,24 @@ use lib.ListN.{length, getD}
 use mathlib.Core.Logic.{_⊎_, inl, inr, ⊎-elim}
 use native.Mathlib.Omega.{arith}
 use Rattle.rows.proofs.Sums.{by-equal}
-use Rattle.table.specs.Table.{Table, pick, arcs, touches, listTo, list}
+use Rattle.table.specs.Table.{Table, arcs}
+use Rattle.run.specs.Residual.{touches, listTo, list}
 use Rattle.run.specs.Rows.{Places}
 
 -- One more place m, taken in where a test holds: a member is one from before, or m itself.
-member-cases : (b : Bool) (m : ℕ) (l : List ℕ) {k : ℕ} → List·Memᴰ k (pick b (l ++ (m ∷ [])) l) → List·Memᴰ k l ⊎ ((b ≡ true) × (k ≡ m))
+member-cases : (b : Bool) (m : ℕ) (l : List ℕ) {k : ℕ} → List·Memᴰ k (cond b (l ++ (m ∷ [])) l) → List·Memᴰ k l ⊎ ((b ≡ true) × (k ≡ m))
 member-cases true m l {k} member = ⊎-elim inl (λ here. inr (refl, List·Memᴰ·eq-of-singleton here)) (List·Memᴰ·append-cases l member)
 member-cases false m l member = inl member
 
 -- Members from before stay.
-member-kept : (b : Bool) (m : ℕ) (l : List ℕ) {k : ℕ} → List·Memᴰ k l → List·Memᴰ k (pick b (l ++ (m ∷ [])) l)
+member-kept : (b : Bool) (m : ℕ) (l : List ℕ) {k : ℕ} → List·Memᴰ k l → List·Memᴰ k (cond b (l ++ (m ∷ [])) l)
 member-kept true m l member = Memᴰ·append-left (m ∷ []) member
 member-kept false m l member = member
 
 -- The place is taken in where the test holds.
-member-new : (b : Bool) (m : ℕ) (l : List ℕ) {k : ℕ} → b ≡ true → k ≡ m → List·Memᴰ k (pick b (l ++ (m ∷ [])) l)
+member-new : (b : Bool) (m : ℕ) (l : List ℕ) {k : ℕ} → b ≡ true → k ≡ m → List·Memᴰ k (cond b (l ++ (m ∷ [])) l)
 member-new b m l {k} e same =
-    subst (λ (x : Bool). List·Memᴰ k (pick x (l ++ (m ∷ [])) l)) (sym e) (Memᴰ·append-right l (List·Memᴰ·head same))
+    subst (λ (x : Bool). List·Memᴰ k (cond x (l ++ (m ∷ [])) l)) (sym e) (Memᴰ·append-right l (List·Memᴰ·head same))
 
 -- Each member among the places below m is one whose arc touches the node,
 listTo-touches : (t : Table) (i m : ℕ) {k : ℕ} → List·Memᴰ k (listTo t i m) → (k < m) × (touches t i k ≡ true)

@@ -1,23 +1,29 @@
--- One step of the rows is one step of the theory, counted alike. Assumes nothing.
+-- One step of the rows is one step of the theory, counted alike.
 use Prim.Native.Nat.{ℕ, _+_, _<_, min}
 use mathlib.Core.Path.{_≡_, refl, ap, sym, subst, _∙_}
-use mathlib.Core.Bool.{Bool, true, false}
+use mathlib.Core.Bool.{Bool, true, false, cond}
 use mathlib.Core.List.{List·Memᴰ}
 use native.Mathlib.Omega.{arith}
 use borrow.Author.Tests.{eqb-true, eqb-false}
-use lib.Dec.{eqb}
-use Rattle.network.specs.Network.{ResidualFrom, start}
-use Rattle.network.specs.Run.{Chosen, Eligible, Steps, no-steps, saturating, nonsaturating, relabels}
-use Rattle.network.specs.Run.{State as Functions, push as pushed, amount as moves}
+use Rattle.network.specs.Network.{start}
+use Rattle.network.proofs.Notions.{ResidualFrom}
+use Rattle.network.proofs.Steps.{Chosen, Eligible, Steps, no-steps, saturating, nonsaturating, relabels}
+use Rattle.network.proofs.Steps.{State as Functions, push as pushed, amount as moves}
 use Rattle.network.proofs.Gaps.{residual-arc}
 use Rattle.network.proofs.Bounds.{steps-hold}
-use Rattle.table.specs.Table.{Table, pick, residual, list}
+use Rattle.table.specs.Table.{Table, networkOf}
+use Rattle.table.specs.Accepted.{Accepted}
 use Rattle.run.specs.declared.Counts.{Counts}
-use Rattle.run.specs.Run.{Run, amount, push, relabel, leastFar, top, firstEligible, stepAt, step, choose}
+use Rattle.run.specs.Residual.{way, list}
+use Rattle.run.specs.Choice.{choose}
+use Rattle.run.specs.Push.{firstEligible, amount, saturates, push}
+use Rattle.run.specs.Relabel.{newLabel}
+use Rattle.run.specs.Phase.{Run, stepAt, step}
+use Rattle.run.specs.Rows.{Fits}
 use Rattle.run.specs.declared.Choice.the-variants.{Node}
 use Rattle.run.specs.declared.Found.{Found}
 use Rattle.run.specs.declared.Found.the-variants.{Place, Missing}
-use Rattle.run.proofs.Networks.{networkOf, functionsOf, FactsOf, Accepted, Fits, accepted-sound, no-minimums, way, residual-room}
+use Rattle.run.proofs.Networks.{functionsOf, FactsOf, accepted-sound, no-minimums}
 use Rattle.run.proofs.Choices.{choose-chosen}
 use Rattle.run.proofs.Arcs.{found-place, member-start, eligible-arc, least-new-label}
 use Rattle.run.proofs.Pushes.{amount-same, push-same, push-fits, relabel-same, relabel-fits}
@@ -72,62 +78,57 @@ module _ (t : Table) (ok : Accepted t) (delta : ℕ) (from : Run) (facts : Facts
       moves-same = amount-same t (accepted-sound t ok) (r .state) (trail .fits) i (chosen .node) k member delta
 
       -- it leads to the rows' state,
-      pushed-same : functionsOf (push t delta r i k .state) ≡ after-push
-      unfolding push
+      pushed-same : functionsOf (push t delta (r .state) i k) ≡ after-push
       pushed-same =
-          push-same t (accepted-sound t ok) (r .state) (trail .fits) i (chosen .node) k member (amount t delta (r .state) i k)
+          push-same t (accepted-sound t ok) (r .state) (trail .fits) i (chosen .node) k member delta
           ∙ ap (λ d. pushed (networkOf t) k (way t i k) d (functionsOf (r .state))) moves-same
 
       -- it starts at the chosen node,
       near : Chosen (networkOf t) delta (functionsOf (r .state)) (start (networkOf t) k (way t i k))
-      near =
-          subst (Chosen (networkOf t) delta (functionsOf (r .state)))
-          (sym (member-start t (accepted-sound t ok) (r .state) i (chosen .node) member)) chosen
+      near = subst (Chosen (networkOf t) delta (functionsOf (r .state))) (sym (member-start t i member)) chosen
 
       -- it is a step of the theory, saturating or not as the rows' push is,
-      push-steps : (full : Bool) → eqb (amount t delta (r .state) i k) (residual t (r .state .flow) i k) ≡ full
-          → Steps (networkOf t) delta (functionsOf (from .state)) after-push (trail .saturated + pick full 1 0) (trail .unsaturated + pick full 0 1)
+      push-steps : (full : Bool) → saturates t delta (r .state) i k ≡ full
+          → Steps (networkOf t) delta (functionsOf (from .state)) after-push (trail .saturated + cond full 1 0) (trail .unsaturated + cond full 0 1)
           (trail .relabelled)
       push-steps true e =
           subst (λ (c : ℕ). Steps (networkOf t) delta (functionsOf (from .state)) after-push (trail .saturated + 1) c (trail .relabelled))
           (omega arith)
-          (saturating (trail .steps) k (way t i k) near arc
-          (sym moves-same ∙ eqb-true _ _ e ∙ sym (residual-room t (r .state .flow) i k)))
+          (saturating (trail .steps) k (way t i k) near arc (sym moves-same ∙ eqb-true _ _ e))
       push-steps false e =
           subst (λ (a : ℕ). Steps (networkOf t) delta (functionsOf (from .state)) after-push a (trail .unsaturated + 1) (trail .relabelled))
           (omega arith)
-          (nonsaturating (trail .steps) k (way t i k) near arc
-          (not-all _ _ _ (λ p. eqb-false _ _ e (moves-same ∙ p ∙ residual-room t (r .state .flow) i k))))
+          (nonsaturating (trail .steps) k (way t i k) near arc (not-all _ _ _ (λ p. eqb-false _ _ e (moves-same ∙ p))))
 
       -- and so the push goes on with the trail.
-      push-trail : Trail t delta from (push t delta r i k) (size + 1)
-      unfolding push
+      push-trail : Trail t delta from (stepAt t delta r i (Place k)) (size + 1)
+      unfolding stepAt
       push-trail =
           record {
-            saturated = trail .saturated + pick full 1 0;
-            unsaturated = trail .unsaturated + pick full 0 1;
+            saturated = trail .saturated + cond full 1 0;
+            unsaturated = trail .unsaturated + cond full 0 1;
             relabelled = trail .relabelled;
             steps =
                 subst
                 (λ (S : Functions).
-                Steps (networkOf t) delta (functionsOf (from .state)) S (trail .saturated + pick full 1 0) (trail .unsaturated + pick full 0 1)
+                Steps (networkOf t) delta (functionsOf (from .state)) S (trail .saturated + cond full 1 0) (trail .unsaturated + cond full 0 1)
                 (trail .relabelled))
                 (sym pushed-same) (push-steps full refl);
             counted = omega (arith, trail .counted);
             size-is = omega (arith, trail .size-is, one full);
-            fits = push-fits t (accepted-sound t ok) (r .state) (trail .fits) i (chosen .node) k member (amount t delta (r .state) i k);
+            fits = push-fits t (accepted-sound t ok) (r .state) (trail .fits) i (chosen .node) k member delta;
           }
         where
           full : Bool
-          full = eqb (amount t delta (r .state) i k) (residual t (r .state .flow) i k)
+          full = saturates t delta (r .state) i k
 
-          one : (b : Bool) → _≡_ {A = ℕ} (pick b 1 0 + pick b 0 1) 1
+          one : (b : Bool) → _≡_ {A = ℕ} (cond b 1 0 + cond b 0 1) 1
           one true = refl
           one false = refl
 
     -- A relabel where no arc of node i's list is eligible is the theory's relabel.
-    relabel-trail : firstEligible t (r .state) i (list t i) ≡ Missing → Trail t delta from (relabel t r i) (size + 1)
-    unfolding relabel
+    relabel-trail : firstEligible t (r .state) i (list t i) ≡ Missing → Trail t delta from (stepAt t delta r i Missing) (size + 1)
+    unfolding stepAt
     relabel-trail missing =
         record {
           saturated = trail .saturated;
@@ -137,12 +138,12 @@ module _ (t : Table) (ok : Accepted t) (delta : ℕ) (from : Run) (facts : Facts
               subst
               (λ (S : Functions).
               Steps (networkOf t) delta (functionsOf (from .state)) S (trail .saturated) (trail .unsaturated) (trail .relabelled + 1))
-              (sym (relabel-same t (accepted-sound t ok) (r .state) (trail .fits) i (chosen .node) (list t i)))
-              (relabels (trail .steps) i (leastFar t (r .state) i (list t i) (top t) + 1) chosen
-              (least-new-label t (accepted-sound t ok) (r .state) i (chosen .node) missing out (trail-facts .highest)));
+              (sym (relabel-same t (accepted-sound t ok) (r .state) (trail .fits) i (chosen .node)))
+              (relabels (trail .steps) i (newLabel t (r .state) i) chosen
+              (least-new-label t (accepted-sound t ok) (r .state) i missing out (trail-facts .highest)));
           counted = omega (arith, trail .counted);
           size-is = omega (arith, trail .size-is);
-          fits = relabel-fits t (accepted-sound t ok) (r .state) (trail .fits) i (chosen .node) (list t i);
+          fits = relabel-fits t (accepted-sound t ok) (r .state) (trail .fits) i (chosen .node);
         }
       where
         out : ResidualFrom (networkOf t) (functionsOf (r .state) .flow) i
@@ -152,13 +153,12 @@ module _ (t : Table) (ok : Accepted t) (delta : ℕ) (from : Run) (facts : Facts
 
     -- What is done at the chosen node goes on with the trail.
     at-trail : (f : Found) → firstEligible t (r .state) i (list t i) ≡ f → Trail t delta from (stepAt t delta r i f) (size + 1)
-    unfolding stepAt
     at-trail (Place k) e =
         let (member, arc) = found-place t (r .state) i (list t i) k e in
-        push-trail k member (eligible-arc t (accepted-sound t ok) (r .state) i (chosen .node) k member arc)
+        push-trail k member (eligible-arc t (accepted-sound t ok) (r .state) i k member arc)
     at-trail Missing e = relabel-trail e
 
   -- One more step: the node chosen, and what is done there.
-  pub step-trail : (i : ℕ) → choose t delta r ≡ Node i → Trail t delta from (step t delta r i) (size + 1)
+  pub step-trail : (i : ℕ) → choose t delta (r .state) ≡ Node i → Trail t delta from (step t delta r i) (size + 1)
   unfolding step
-  step-trail i e = at-trail i (choose-chosen t delta r i e) (firstEligible t (r .state) i (list t i)) refl
+  step-trail i e = at-trail i (choose-chosen t delta (r .state) i e) (firstEligible t (r .state) i (list t i)) refl

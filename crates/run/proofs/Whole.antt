@@ -1,174 +1,210 @@
--- The whole run of an accepted table: whole phases of the theory down to Delta = 0. Assumes nothing.
-use Prim.Native.Nat.{ℕ, zero, suc, _+_, _-_, _*_, _^_, _≤_, _<_}
+-- The whole run of an accepted table: whole phases of the theory down to Delta = 0.
+use Prim.Native.Nat.{ℕ, zero, suc, _+_, _-_, _*_, _/_, _≤_, _<_}
 use mathlib.Core.Path.{_≡_, ap, subst, _∙_}
 use mathlib.Core.List.{List, [], _∷_}
 use native.Mathlib.Omega.{arith}
-use Rattle.rows.specs.Sum.{atNode}
-use Rattle.network.specs.Run.{no-steps, no-phases}
+use lib.ListN.{length}
+use Rattle.rows.specs.Sum.{sum, nodes, total}
+use Rattle.rows.specs.Row.{atNode, atPlace}
+use Rattle.rows.proofs.Sums.{sum-bound, sum-term}
+use Rattle.network.proofs.Notions.{Preflow}
+use Rattle.network.proofs.Steps.{Phases, no-steps, no-phases}
+use Rattle.network.proofs.Steps.{phase as next-phase}
 use Rattle.network.proofs.Bounds.{phases-hold, nonsaturating-in-phase, relabels-in-all, saturating-in-all}
-use Rattle.table.specs.Table.{Table, arcs}
-use Rattle.run.specs.Run.{Run, start, largest, phasesFor, scaleOf, phase, phases, noSteps, phaseCount, run}
-use Rattle.run.specs.Rows.{total}
-use Rattle.run.specs.Facts.{Phases-end}
-use Rattle.run.specs.Flows.{Scaled}
-use Rattle.run.proofs.Networks.{networkOf, functionsOf, FactsOf, Accepted, accepted-sound, no-minimums}
-use Rattle.run.proofs.Capacities.{total-bound}
+use Rattle.network.proofs.Holding.{excess-in-all}
+use Rattle.table.specs.Table.{Table, arcs, cap, networkOf}
+use Rattle.table.specs.Accepted.{Accepted}
+use Rattle.run.specs.Start.{State, start}
+use Rattle.run.specs.Scale.{largest, scaleOf, phaseCount, scale}
+use Rattle.run.specs.Phase.{Run, enough, phase, noSteps, deltaAfter, after, run}
+use Rattle.run.specs.Demands.{Scaled, Bounded}
+use Rattle.run.specs.Rows.{Fits}
+use Rattle.run.proofs.Networks.{functionsOf, FactsOf, accepted-sound, no-minimums}
+use Rattle.run.proofs.Choices.{choose-ended}
+use Rattle.run.proofs.Trails.{Counted, Trail}
+use Rattle.run.proofs.Courses.{Led, phase-led, phase-ended}
 use Rattle.run.proofs.Beginning.{start-fits, start-facts}
-use Rattle.run.proofs.Doubling.{largest-most, scaled, phases-most}
-use Rattle.run.proofs.Courses.{Led, Course, course-facts, phase-facts, scale-positive, phase-trail, phase-course, phases-course, phases-end}
-
--- The scale D of a table.
-abbrev pub scale : Table → ℕ
-scale t = scaleOf (phaseCount t)
-
--- Delta after d phases: that of the next phase, and 0 after the last.
-abbrev pub deltaAfter : Table → ℕ → ℕ
-deltaAfter t d = scaleOf (phaseCount t - d)
-
--- The run before its first step.
-abbrev pub begin : Table → Run
-begin t = record { state = start t; counts = noSteps }
-
--- The run after the first d of its phases.
-unfoldable pub after : Table → ℕ → Run
-after t zero = begin t
-after t (suc d) = phase t (2 ^ (phaseCount t - suc d)) (after t d)
-
--- The largest number of a row is at most their sum.
-largest-total : (row : List ℕ) → largest row ≤ total row
-unfolding largest total
-largest-total [] = omega arith
-largest-total (x ∷ row) = omega (arith, largest-total row)
+use Rattle.run.proofs.Doubling.{largest-most, scaled, phases-most, some-scale, halved}
 
 -- A node's excess is at most the largest.
 node-largest : (row : List ℕ) (i : ℕ) → atNode row i ≤ largest row
 node-largest row zero = omega arith
 node-largest row (suc k) = largest-most row k
 
+-- The largest number of a row is below what bounds each of its places.
+largest-bound : (b : ℕ) (row : List ℕ) → ((k : ℕ) → k < length row → atPlace row k ≤ b) → largest row ≤ b
+unfolding largest
+largest-bound b [] each = omega arith
+largest-bound b (x ∷ row) each = omega (arith, each 0 (omega arith), largest-bound b row (λ k l. each (suc k) (omega arith)))
+
 module _ (t : Table) (ok : Accepted t) where
-  -- The largest excess after the start is at most 4,096,000,000, so it fits 32 bits.
-  pub start-largest : largest (start t .excess) ≤ 4096000000
+  -- All capacities together are at most 4,096,000,000.
+  pub capacity-in-all : sum (arcs t) (cap t) ≤ 4096000000
+  capacity-in-all =
+      omega (arith, sum-bound (arcs t) 1000000 (cap t) (ok .rows .small), ok .rows .ends .few-arcs, ok .rows .caps-long)
+
+  -- So all excesses of a state's row together are.
+  pub total-bound : (st : State) → Fits t st → Preflow (networkOf t) (functionsOf st .flow) (functionsOf st .excess) → total (st .excess) ≤ 4096000000
+  total-bound st fits pre =
+      omega (
+        arith,
+        ap (λ n. sum n (atPlace (st .excess))) (fits .excess),
+        excess-in-all (networkOf t) (accepted-sound t ok) (functionsOf st .flow) (functionsOf st .excess) pre,
+        capacity-in-all,
+      )
+
+  -- The largest excess after the start fits 32 bits.
+  start-largest : largest (start t .excess) ≤ 4096000000
   start-largest =
       omega (
         arith,
-        largest-total (start t .excess),
-        total-bound t ok (start t) (start-fits t) (start-facts t ok (largest (start t .excess)) (λ i v. node-largest (start t .excess) i) .pre),
+        largest-bound (total (start t .excess)) (start t .excess) (λ k l. sum-term (length (start t .excess)) (atPlace (start t .excess)) k l),
+        total-bound (start t) (start-fits t) (start-facts t ok (largest (start t .excess)) (λ i v. node-largest (start t .excess) i) .pre),
       )
 
-  -- D and K are as document 01 says: D the least power of two not below the largest excess, K one more than its log,
+  -- D and K are as document 01 says,
   pub start-scaled : Scaled (largest (start t .excess)) (scale t) (phaseCount t)
   unfolding phaseCount
   start-scaled = scaled (largest (start t .excess)) (omega (arith, start-largest))
 
-  -- D is at most 2^32, which takes 33 bits, and K at most 33.
-  pub scale-bound : scale t ≤ 2 ^ 32
-  scale-bound = start-scaled .least 32 (omega (arith, start-largest))
-
+  -- and K is at most 33.
   pub phases-bound : phaseCount t ≤ 33
   unfolding phaseCount
   phases-bound = phases-most (largest (start t .excess))
 
   -- D is at least each excess after the start, so the facts hold there.
   pub begin-facts : FactsOf t (scale t) (start t)
-  unfolding phaseCount
-  begin-facts =
-      start-facts t ok (scaleOf (phasesFor (largest (start t .excess))))
-      (λ i v. omega (arith, node-largest (start t .excess) i, scaled (largest (start t .excess)) (omega (arith, start-largest)) .above))
+  begin-facts = start-facts t ok (scale t) (λ i v. omega (arith, node-largest (start t .excess) i, start-scaled .above))
 
-  -- No phase yet.
-  begin-course : Course t (scale t) (begin t) (begin t) (phaseCount t) 0
-  begin-course =
+-- The first d phases are phases of the theory, counted alike.
+pub record Course (t : Table) (d : ℕ) : Type 0 where
+  pub saturated : ℕ
+  pub unsaturated : ℕ
+  pub relabelled : ℕ
+  pub phases : Phases (networkOf t) (scale t) (functionsOf (start t)) (deltaAfter t d) (functionsOf (after t d .state)) d saturated unsaturated relabelled
+  pub counted : Counted noSteps (after t d .counts) saturated unsaturated relabelled
+  pub fits : Fits t (after t d .state)
+
+module _ (t : Table) (ok : Accepted t) where
+  -- While a phase is left Delta is above 0,
+  pub delta-positive : (d : ℕ) → d < phaseCount t → 0 < deltaAfter t d
+  delta-positive d l = some-scale (phaseCount t - d) (omega arith)
+
+  -- and the next is half of it.
+  pub delta-half : (d : ℕ) → d < phaseCount t → deltaAfter t d / 2 ≡ deltaAfter t (suc d)
+  delta-half d l =
+      let less : phaseCount t - d - 1 ≡ phaseCount t - suc d = omega arith in
+      halved (phaseCount t - d) (omega arith) ∙ ap scaleOf less
+
+  -- The facts hold after the phases of a course.
+  pub course-facts : (d : ℕ) → Course t d → FactsOf t (deltaAfter t d) (after t d .state)
+  course-facts d course =
+      phases-hold (networkOf t) (accepted-sound t ok) (no-minimums t) (scale t) (functionsOf (start t)) (begin-facts t ok) (course .phases) .0
+
+  module _ (d : ℕ) (l : d < phaseCount t) (course : Course t d) where
+    -- The next phase's steps.
+    pub phase-trail : Led t (deltaAfter t d) (after t d) (phase t (deltaAfter t d) (after t d)) (enough t)
+    phase-trail = phase-led t ok (deltaAfter t d) (after t d) (course-facts d course) (delta-positive d l) (course .fits)
+
+    -- One more phase.
+    phase-course : Course t (suc d)
+    unfolding after
+    phase-course =
+        let trail : Trail t (deltaAfter t d) (after t d) (phase t (deltaAfter t d) (after t d)) (phase-trail .size) = phase-trail .trail in
+        let here : Run = phase t (deltaAfter t d) (after t d) in
+        record {
+          saturated = course .saturated + trail .saturated;
+          unsaturated = course .unsaturated + trail .unsaturated;
+          relabelled = course .relabelled + trail .relabelled;
+          phases =
+              subst
+              (λ (x : ℕ).
+              Phases (networkOf t) (scale t) (functionsOf (start t)) x (functionsOf (here .state)) (suc d)
+              (course .saturated + trail .saturated) (course .unsaturated + trail .unsaturated) (course .relabelled + trail .relabelled))
+              (delta-half d l)
+              (subst
+              (λ (done : ℕ).
+              Phases (networkOf t) (scale t) (functionsOf (start t)) (deltaAfter t d / 2) (functionsOf (here .state)) done
+              (course .saturated + trail .saturated) (course .unsaturated + trail .unsaturated) (course .relabelled + trail .relabelled))
+              (omega arith)
+              (next-phase (course .phases) (delta-positive d l) (trail .steps)
+              (choose-ended t (deltaAfter t d) (here .state)
+              (phase-ended t ok (deltaAfter t d) (after t d) (course-facts d course) (delta-positive d l) (course .fits)))));
+          counted = omega (arith, course .counted, trail .counted);
+          fits = trail .fits;
+        }
+
+  -- The first d phases.
+  pub course : (d : ℕ) → d ≤ phaseCount t → Course t d
+  unfolding after
+  course zero l =
       record {
         saturated = 0;
         unsaturated = 0;
         relabelled = 0;
-        phases = no-phases;
+        phases =
+            let all : phaseCount t ≡ phaseCount t - 0 = omega arith in
+            subst (λ (j : ℕ). Phases (networkOf t) (scale t) (functionsOf (start t)) (scaleOf j) (functionsOf (start t)) 0 0 0 0) all no-phases;
         counted = omega arith;
         fits = start-fits t;
       }
+  course (suc d) l = phase-course d l (course d (omega arith))
 
-  -- The first d phases.
-  pub after-course : (d : ℕ) → d ≤ phaseCount t → Course t (scale t) (begin t) (after t d) (phaseCount t - d) d
-  unfolding after
-  after-course zero l = subst (λ (j : ℕ). Course t (scale t) (begin t) (begin t) j 0) (omega arith) begin-course
-  after-course (suc d) l =
-      subst (Course t (scale t) (begin t) (after t (suc d)) (phaseCount t - suc d)) (omega arith)
-      (phase-course t ok (scale t) (begin t) begin-facts (after t d) (phaseCount t - suc d) d
-      (subst (λ (j : ℕ). Course t (scale t) (begin t) (after t d) j d) (omega arith) (after-course d (omega arith))))
+  -- The whole run.
+  run-course : Course t (phaseCount t)
+  run-course = course (phaseCount t) (omega arith)
 
-  -- The whole run: K phases.
-  pub run-course : Course t (scale t) (begin t) (run t) 0 (phaseCount t)
+  -- Its rows have the table's lengths.
+  pub run-fits : Fits t (run t .state)
   unfolding run
-  run-course =
-      subst (Course t (scale t) (begin t) (phases t (phaseCount t) (begin t)) 0) (omega arith)
-      (phases-course t ok (scale t) (begin t) begin-facts (phaseCount t) 0 (begin t) begin-course)
+  run-fits = run-course .fits
 
-  -- Each of its phases ends with no node to choose.
-  pub run-phases-end : Phases-end t
-  run-phases-end = phases-end t ok (scale t) (begin t) begin-facts (phaseCount t) 0 (begin t) begin-course
+  -- At its end the facts hold at Delta = 0: there is no excess.
+  pub end-facts : FactsOf t 0 (run t .state)
+  unfolding run scaleOf
+  end-facts =
+      let none : phaseCount t - phaseCount t ≡ 0 = omega arith in
+      subst (λ (j : ℕ). FactsOf t (scaleOf j) (after t (phaseCount t) .state)) none (course-facts (phaseCount t) run-course)
 
-  -- The same run, phase by phase.
-  phases-after : (j d : ℕ) → d + j ≡ phaseCount t → phases t j (after t d) ≡ after t (phaseCount t)
-  unfolding phases after
-  phases-after zero d e =
-      let same : d ≡ phaseCount t = omega arith in
-      ap (after t) same
-  phases-after (suc j) d e =
-      let same : j ≡ phaseCount t - suc d = omega arith in
-      ap (λ x. phases t j (phase t (2 ^ x) (after t d))) same ∙ phases-after j (suc d) (omega arith)
-
-  pub run-after : run t ≡ after t (phaseCount t)
-  unfolding run after
-  run-after = phases-after (phaseCount t) 0 (omega arith)
-
-  -- In all there are at most 2nm saturating pushes,
-  pub saturating-bound : run t .counts .saturating ≤ 2 * (t .nodes * arcs t)
-  saturating-bound =
-      omega (
-        arith,
-        run-course .counted .saturating-is,
-        saturating-in-all (networkOf t) (accepted-sound t ok) (no-minimums t) (scale t) (functionsOf (start t)) begin-facts
-            (run-course .phases) no-steps,
-      )
-
-  -- at most 2n^2 relabels,
-  pub relabels-bound : run t .counts .relabels ≤ 2 * (t .nodes * t .nodes)
-  relabels-bound =
-      omega (
-        arith,
-        run-course .counted .relabels-is,
-        relabels-in-all (networkOf t) (accepted-sound t ok) (no-minimums t) (scale t) (functionsOf (start t)) begin-facts
-            (run-course .phases) no-steps,
-      )
-
-  -- and at most 4n^2 nonsaturating pushes for each phase,
-  pub nonsaturating-bound : run t .counts .nonsaturating ≤ 4 * (t .nodes * t .nodes) * phaseCount t
-  nonsaturating-bound =
-      omega (
-        arith,
-        run-course .counted .nonsaturating-is,
-        phases-hold (networkOf t) (accepted-sound t ok) (no-minimums t) (scale t) (functionsOf (start t)) begin-facts
-            (run-course .phases) .1 .by-phase,
-      )
-
-  -- in each phase at most 4n^2.
-  pub phase-bound : (d : ℕ) → d < phaseCount t
-      → after t (suc d) .counts .nonsaturating ≤ after t d .counts .nonsaturating + 4 * (t .nodes * t .nodes)
+  -- In each phase there are at most 4n^2 nonsaturating pushes.
+  phase-bound : (d : ℕ) → d < phaseCount t → after t (suc d) .counts .nonsaturating ≤ after t d .counts .nonsaturating + 4 * (t .nodes * t .nodes)
   unfolding after
   phase-bound d l =
-      let j : ℕ = phaseCount t - suc d in
-      let course : Course t (scale t) (begin t) (after t d) (suc j) d =
-      subst (λ (x : ℕ). Course t (scale t) (begin t) (after t d) x d) (omega arith) (after-course d (omega arith)) in
-      let led : Led t (2 ^ j) (after t d) (phase t (2 ^ j) (after t d)) _ = phase-trail t ok (scale t) (begin t) begin-facts (after t d) j d course in
+      let before : Course t d = course d (omega arith) in
+      let trail : Trail t (deltaAfter t d) (after t d) (phase t (deltaAfter t d) (after t d)) _ = phase-trail d l before .trail in
       omega (
         arith,
-        led .trail .counted .nonsaturating-is,
-        nonsaturating-in-phase (networkOf t) (accepted-sound t ok) (no-minimums t) (2 ^ j) (functionsOf (after t d .state))
-            (phase-facts t ok (scale t) (begin t) begin-facts (after t d) j d course) (led .trail .steps)
-            (scale-positive t ok (scale t) (begin t) begin-facts (after t d) j d course),
+        trail .counted .nonsaturating-is,
+        nonsaturating-in-phase (networkOf t) (accepted-sound t ok) (no-minimums t) (deltaAfter t d) (functionsOf (after t d .state))
+            (course-facts d before) (trail .steps) (delta-positive d l),
       )
 
-  -- At the end the facts hold at Delta = 0: there is no excess.
-  pub end-facts : FactsOf t 0 (run t .state)
-  unfolding scaleOf
-  end-facts = course-facts t ok (scale t) (begin t) begin-facts (run t) 0 (phaseCount t) run-course
+  -- Demand 3 of the run's scale, phases and counts.
+  pub run-bounded : Bounded t (scale t) (phaseCount t) (run t .counts)
+  unfolding run
+  run-bounded =
+      let sound = accepted-sound t ok in
+      let whole = run-course in
+      record {
+        scaled = start-scaled t ok;
+        phases = phases-bound t ok;
+        saturating =
+            omega (
+              arith,
+              whole .counted .saturating-is,
+              saturating-in-all (networkOf t) sound (no-minimums t) (scale t) (functionsOf (start t)) (begin-facts t ok) (whole .phases) no-steps,
+            );
+        nonsaturating =
+            omega (
+              arith,
+              whole .counted .nonsaturating-is,
+              phases-hold (networkOf t) sound (no-minimums t) (scale t) (functionsOf (start t)) (begin-facts t ok) (whole .phases) .1 .by-phase,
+            );
+        relabels =
+            omega (
+              arith,
+              whole .counted .relabels-is,
+              relabels-in-all (networkOf t) sound (no-minimums t) (scale t) (functionsOf (start t)) (begin-facts t ok) (whole .phases) no-steps,
+            );
+        in-phase = phase-bound;
+      }

@@ -2,75 +2,84 @@
 use Prim.Native.Nat.{ℕ, _+_, _≤_, _<_, min}
 use native.Mathlib.Numerals.{add-one}
 use native.Mathlib.Omega.{arith}
-use mathlib.Core.Path.{_≡_, sym, _∙_}
+use mathlib.Core.Path.{_≡_, sym, _∙_, subst⁻¹}
 use mathlib.Core.Bool.{Bool, true, false}
 use mathlib.Core.List.{List}
-use lib.ListN.{length, getD, drop, drop-of-length-le}
+use lib.ListN.{length, drop, drop-of-length-le}
 use lib.Seq.{drop-cons}
 use lib.Dec.{eqb}
 use borrow.Author.Tests.{lt-ltb}
-use Rattle.table.specs.Table.{Table, pick, of, far, residual}
-use Rattle.run.specs.Run.{State, eligible, firstEligible, lesser, leastFar}
-use Rattle.run.specs.Rows.{tableOf, ArcRows}
+use Rattle.rows.specs.Row.{Node, atPlace, atNode}
+use Rattle.network.specs.Network.{finish}
+use Rattle.table.specs.Table.{Table, tableOf, networkOf, tail, head}
+use Rattle.table.specs.Accepted.{ArcRows}
+use Rattle.run.specs.Residual.{way, far, residual}
+use Rattle.run.specs.Start.{State}
+use Rattle.run.specs.Push.{eligible, firstEligible}
+use Rattle.run.specs.Relabel.{lesser, leastFar}
 use Rattle.run.specs.declared.Found.the-variants.{Place, Missing}
 
--- what holds of both holds of the picked one
-pub pick-both : {A : Type 0} (P : A → Type 0) (b : Bool) (x y : A) → P x → P y → P (pick b x y)
-pick-both P true x y p q = p
-pick-both P false x y p q = q
+-- What holds of both ends of an arc holds of the far one.
+pub far-either : (P : ℕ → Type 0) (t : Table) (i k : ℕ) → P (head t k) → P (tail t k) → P (far t i k)
+far-either P t i k at-head at-tail = go (way t i k)
+  where
+    go : (b : Bool) → P (finish (networkOf t) k b)
+    go true = at-head
+    go false = at-tail
 
--- the far end of an arc is a node
-pub far-node : (n s t : ℕ) (tails heads caps : List ℕ) (i k : ℕ) → ArcRows n tails heads caps → k < length caps
-    → (1 ≤ far (tableOf n s t tails heads caps) i k) × (far (tableOf n s t tails heads caps) i k ≤ n)
-far-node n s t tails heads caps i k rows h =
-    pick-both (λ (j : ℕ). (1 ≤ j) × (j ≤ n)) (eqb (getD tails k 0) i) (getD heads k 0) (getD tails k 0)
-    (rows .head-nodes k (omega (arith, rows .heads-length, rows .caps-length)))
-    (rows .tail-nodes k (omega (arith, rows .caps-length)))
+-- The far end of an arc is a node.
+pub far-node : {n k : ℕ} {tails heads caps : List ℕ} (i : ℕ) → ArcRows n tails heads caps → k < length caps
+    → (j : ℕ) → j ≡ far (tableOf n 0 0 tails heads caps) i k → Node n j
+far-node {n} {k} {tails} {heads} {caps} i rows l j e =
+    subst⁻¹ (Node n) e
+    (far-either (Node n) (tableOf n 0 0 tails heads caps) i k
+    (rows .ends .head-node k (omega (arith, rows .caps-long))) (rows .ends .tail-node k (omega (arith, rows .caps-long))))
 
 module _ (t : Table) (st : State) (i k : ℕ) where
-  -- an arc with no residual is not eligible
+  -- An arc with no residual is not eligible.
   pub eligible-none : (r : ℕ) → r ≡ residual t (st .flow) i k → r ≡ 0 → false ≡ eligible t st i k
   eligible-none r e z = rw (sym e ∙ z)
 
-  -- one with residual is where its far end's label a is one less than i's label b
+  -- One with residual is where its far end's label a is one less than i's label b.
   pub eligible-some : (r a b : ℕ) → r ≡ residual t (st .flow) i k → (r ≡ 0 → ⊥)
-      → a ≡ of (st .label) (far t i k) → b ≡ of (st .label) i → eqb (a + 1) b ≡ eligible t st i k
+      → a ≡ atNode (st .label) (far t i k) → b ≡ atNode (st .label) i → eqb (a + 1) b ≡ eligible t st i k
   eligible-some r a b e nz ea eb = rw (lt-ltb 0 (residual t (st .flow) i k) (omega (arith, nz)), ea, eb)
 
-  -- an arc with no residual leaves the least label
+  -- An arc with no residual leaves the least label.
   pub lesser-none : (best r : ℕ) → r ≡ residual t (st .flow) i k → r ≡ 0 → best ≡ lesser t st i k best
   lesser-none best r e z = rw (sym e ∙ z)
 
-  -- one with residual takes its far end's label a in
+  -- One with residual takes its far end's label a in.
   pub lesser-some : (best r a x : ℕ) → r ≡ residual t (st .flow) i k → (r ≡ 0 → ⊥)
-      → a ≡ of (st .label) (far t i k) → x ≡ min best a → x ≡ lesser t st i k best
+      → a ≡ atNode (st .label) (far t i k) → x ≡ min best a → x ≡ lesser t st i k best
   lesser-some best r a x e nz ea ex = rw (lt-ltb 0 (residual t (st .flow) i k) (omega (arith, nz)), ex, ea)
 
 module _ (t : Table) (st : State) (i : ℕ) (places : List ℕ) (j : ℕ) where
-  -- an eligible place is found where it stands
-  pub search-here : j < length places → true ≡ eligible t st i (getD places j 0)
-      → firstEligible t st i (drop j places) ≡ Place (getD places j 0)
+  -- An eligible place is found where it stands.
+  pub search-here : j < length places → true ≡ eligible t st i (atPlace places j)
+      → firstEligible t st i (drop j places) ≡ Place (atPlace places j)
   unfolding firstEligible
   search-here h e = rw (drop-cons places j 0 h, ← e)
 
-  -- any other is passed over
-  pub search-on : j < length places → false ≡ eligible t st i (getD places j 0)
+  -- Any other is passed over.
+  pub search-on : j < length places → false ≡ eligible t st i (atPlace places j)
       → firstEligible t st i (drop j places) ≡ firstEligible t st i (drop (j + 1) places)
   unfolding firstEligible
   search-on h e = rw (drop-cons places j 0 h, ← e, add-one)
 
-  -- past the end nothing is found
+  -- Past the end nothing is found.
   pub search-end : length places ≤ j → firstEligible t st i (drop j places) ≡ Missing
   unfolding firstEligible
   search-end h = rw (drop-of-length-le places h)
 
-  -- the least label after one more place
+  -- The least label after one more place.
   pub least-on : (best : ℕ) → j < length places
       → leastFar t st i (drop j places) best
-      ≡ leastFar t st i (drop (j + 1) places) (lesser t st i (getD places j 0) best)
+      ≡ leastFar t st i (drop (j + 1) places) (lesser t st i (atPlace places j) best)
   unfolding leastFar
   least-on best h = rw (drop-cons places j 0 h, add-one)
 
+  -- Past the end it is the one found so far.
   pub least-end : (best : ℕ) → length places ≤ j → leastFar t st i (drop j places) best ≡ best
   unfolding leastFar
   least-end best h = rw (drop-of-length-le places h)

@@ -1,4 +1,4 @@
--- `serve_rows` meets its contract: the parts that are lent have m arcs. Assumes nothing.
+-- `serve_rows` meets its contract: the parts that are lent have m arcs.
 use lib.Seq.{length-take-le}
 use mathlib.Core.Path.{sym}
 use borrow.Author.Needs.{needs}

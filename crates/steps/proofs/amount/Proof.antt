@@ -1,18 +1,19 @@
--- `run::amount` meets its contract: the amount is the least of the three numbers; the far end is a node, and its excess is at most Delta, so the difference does not wrap.
+-- `amount` meets its contract: the amount is the least of the three numbers; the far end is a node, and its excess is at most Delta, so the difference does not wrap.
 use Prim.Native.Nat.{_-_}
 use Rattle.steps.proofs.Searching.{far-node}
-use Rattle.run.specs.Rows.{Node-of}
-use Rattle.table.specs.Table.{far}
+use Rattle.rows.specs.Row.{Node}
+use Rattle.rows.proofs.Rows.{node-at}
+use lib.ListN.{length}
 use native.Mathlib.Omega.{arith}
 use borrow.Author.Needs.{needs}
 use Rattle.steps.proofs.amount.Statement.{statement}
 use Rattle.steps.proofs.amount.Tie as tie
 
--- the far end is a node of the excess row
-far-in : (c : tie.After-far) → Node-of (c .before .before .before .before .before .before .before .before .before .before .args .excess .now) (c .far .result)
+-- The far end is a node of the excess row.
+far-in : (c : tie.After-far) → Node (length (c .before .before .before .before .before .before .before .before .before .before .args .excess .now)) (c .far .result)
 far-in c =
     let start = c .before .before .before .before .before .before .before .before .before .before in
-    rw (c .far .ensures 0 0 0 (start .args .caps .now)) (far-node _ 0 0 _ _ _ (start .args .i) (start .args .k) (start .pre .0) (start .pre .1 .1 .0 .1))
+    far-node (start .args .i) (start .pre .0) (start .pre .1 .1 .0 .1) _ (c .far .ensures _ 0 0 (start .args .caps .now))
 
 at-node-requires : tie.Need-at-node-requires
 at-node-requires c κs = search needs
@@ -40,7 +41,7 @@ sub-least c =
     let reached = c .before .before in
     let start = reached .before .before .before .before .before .before .before .before .before .before in
     let node = far-in reached in
-    omega (arith, start .pre .1 .1 .1 (reached .far .result - 1) (omega arith))
+    omega (arith, start .pre .1 .1 .1 (reached .far .result - 1) (omega arith), node-at (start .args .excess .now) (reached .far .result) (node .0))
 
 least-requires : tie.Need-least-requires
 least-requires c κs = search needs

@@ -1,7 +1,7 @@
--- `run::choose` meets its contract: the loop's invariant: `best` is the choice among nodes 1 to i.
+-- `choose` meets its contract: the loop's invariant: `best` is the choice among nodes 1 to i.
 use Rattle.steps.proofs.Choosing.{choose-large, choose-small}
-use Rattle.run.specs.Rows.{Chosen}
-use Rattle.run.specs.Run.{chooseTo, lower}
+use Rattle.steps.specs.Rows.{Chosen}
+use Rattle.run.specs.Choice.{chooseTo, lower}
 use lib.ListN.{length}
 use mathlib.Core.Path.{_≡_, refl}
 use Prim.Native.Nat.{_≤_, _-_}

@@ -1,6 +1,7 @@
--- `run::eligible` meets its contract: by the residual, then by the two labels.
+-- `eligible` meets its contract: by the residual, then by the two labels.
 use Rattle.steps.proofs.Searching.{far-node, eligible-none, eligible-some}
-use Rattle.run.specs.Rows.{tableOf, stateOf}
+use Rattle.run.specs.Rows.{stateOf}
+use Rattle.table.specs.Table.{tableOf}
 use borrow.Author.Needs.{needs}
 use Rattle.steps.proofs.eligible.Statement.{statement}
 use Rattle.steps.proofs.eligible.Tie as tie
@@ -20,7 +21,7 @@ far-requires c κs = search needs
 at-node-requires : tie.Need-at-node-requires
 at-node-requires c κs =
     let start = c .before .before .before .before .before .before .before .before in
-    rw (c .far .ensures 0 0 0 (start .args .caps .now)) (far-node _ 0 0 _ _ _ (start .args .i) (start .args .k) (start .pre .0) (start .pre .1 .1 .1))
+    far-node (start .args .i) (start .pre .0) (start .pre .1 .1 .1) _ (c .far .ensures _ 0 0 (start .args .caps .now))
 
 wide-requires : tie.Need-wide-requires
 wide-requires c κs = search needs

@@ -1,4 +1,4 @@
--- `run::far` meets its contract: by the test on the tail.
+-- `far` meets its contract: by the test on the tail.
 use borrow.Author.Tests.{eq-eqb, ne-eqb}
 use borrow.Author.Needs.{needs}
 use Rattle.steps.proofs.far.Statement.{statement}

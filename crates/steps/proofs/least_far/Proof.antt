@@ -1,7 +1,8 @@
--- `run::least_far` meets its contract: the invariant: the least label of the whole list from `best` is that of the rest from `least`.
+-- `least_far` meets its contract. The invariant: the least label of the whole list from `best` is that of the rest from `least`.
 use Rattle.steps.proofs.Searching.{least-on, least-end}
-use Rattle.run.specs.Rows.{tableOf, stateOf}
-use Rattle.run.specs.Run.{leastFar}
+use Rattle.run.specs.Rows.{stateOf}
+use Rattle.table.specs.Table.{tableOf}
+use Rattle.run.specs.Relabel.{leastFar}
 use lib.ListN.{length, drop}
 use mathlib.Core.List.{List}
 use mathlib.Core.Path.{_≡_, refl, sym, ap, _∙_}

@@ -1,6 +1,7 @@
--- `run::lesser` meets its contract: by the residual, then by the order of the two labels.
+-- `lesser` meets its contract: by the residual, then by the order of the two labels.
 use Rattle.steps.proofs.Searching.{far-node, lesser-none, lesser-some}
-use Rattle.run.specs.Rows.{tableOf, stateOf}
+use Rattle.run.specs.Rows.{stateOf}
+use Rattle.table.specs.Table.{tableOf}
 use native.Mathlib.Omega.{arith}
 use borrow.Author.Needs.{needs}
 use Rattle.steps.proofs.lesser.Statement.{statement}
@@ -23,7 +24,7 @@ far-requires c κs = search needs
 at-node-requires : tie.Need-at-node-requires
 at-node-requires c κs =
     let start = c .before .before .before .before .before .before .before .before in
-    rw (c .far .ensures 0 0 0 (start .args .caps .now)) (far-node _ 0 0 _ _ _ (start .args .i) (start .args .k) (start .pre .0) (start .pre .1 .1))
+    far-node (start .args .i) (start .pre .0) (start .pre .1 .1) _ (c .far .ensures _ 0 0 (start .args .caps .now))
 
 returns-2 : tie.Need-returns-2
 returns-2 c =

@@ -1,4 +1,4 @@
--- `run::lower` meets its contract: by cases on the choice so far.
+-- `lower` meets its contract: by cases on the choice so far.
 use native.Mathlib.Omega.{arith}
 use Rattle.steps.proofs.Choosing.{lower-nothing, lower-less, lower-kept}
 use borrow.Author.Needs.{needs}

@@ -1,4 +1,4 @@
--- `run::new_label` meets its contract: one more than `least_far` from 2n.
+-- `new_label` meets its contract: one more than `least_far` from 2n.
 use lib.ListN.{length}
 use borrow.Author.Needs.{needs}
 use Rattle.steps.proofs.new_label.Statement.{statement}

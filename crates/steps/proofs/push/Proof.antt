@@ -1,5 +1,6 @@
--- `run::push` meets its contract: the amount, then the flow row, then the excess row.
-use Rattle.run.specs.Rows.{tableOf, stateOf}
+-- `push` meets its contract: the amount, then the flow row, then the excess row.
+use Rattle.run.specs.Rows.{stateOf}
+use Rattle.table.specs.Table.{tableOf}
 use Rattle.steps.proofs.Moving.{push-sends, push-shifts, pushed}
 use mathlib.Core.List.{[]}
 use native.Mathlib.Omega.{arith}
@@ -20,9 +21,9 @@ send-requires : tie.Need-send-requires
 send-requires c κs =
     let start = c .before .before .before .before .before .before .before .before .before .before .before .before in
     let given = start .args in (
-      omega arith,
+      (omega (arith, start .pre .0 .caps-long), omega (arith, start .pre .1 .0 .room)),
       push-sends (given .tails .now) (given .heads .now) (given .caps .now) (given .flow .now) (given .excess .now) (given .delta) (given .i) (given .k)
-          (c .before .amount .result) (start .pre .0) (start .pre .1 .0) (start .pre .1 .1 .0 .1) (c .before .amount .ensures 0 0 0 []),
+          (c .before .amount .result) (start .pre .0) (start .pre .1 .0) (start .pre .1 .1 .0 .1) (c .before .amount .ensures _ 0 0 []),
     )
 
 shift-requires : tie.Need-shift-requires
@@ -33,8 +34,8 @@ shift-requires c κs =
     let given = start .args in
     let fits =
     push-shifts (given .tails .now) (given .heads .now) (given .caps .now) (given .flow .now) (given .excess .now) (given .delta) (given .i) (given .k)
-    (measured .amount .result) (start .pre .0) (start .pre .1 .0) (start .pre .1 .1 .0 .1) (measured .amount .ensures 0 0 0 [])
-    (reached .far .result) (reached .far .ensures 0 0 0 (given .caps .now)) (start .pre .1 .1 .0 .0 .0) (start .pre .1 .1 .0 .0 .1) (start .pre .1 .1 .1 .1) in
+    (measured .amount .result) (start .pre .0) (start .pre .1 .0) (start .pre .1 .1 .0 .1) (measured .amount .ensures _ 0 0 [])
+    (reached .far .result) (reached .far .ensures _ 0 0 (given .caps .now)) (start .pre .1 .1 .0 .0) (start .pre .1 .1 .1 .1) in
     ((start .pre .1 .1 .0 .0, fits .0), fits .1)
 
 same-length : tie.Need-same-length

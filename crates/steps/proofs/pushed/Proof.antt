@@ -1,4 +1,4 @@
--- `run::pushed` meets its contract: by the flag.
+-- `pushed` meets its contract: by the flag.
 use native.Mathlib.Nat.{add-zero}
 use borrow.Author.Needs.{needs}
 use Rattle.steps.proofs.pushed.Statement.{statement}

@@ -1,4 +1,4 @@
--- `run::residual` meets its contract: by the test on the tail.
+-- `residual` meets its contract: by the test on the tail.
 use native.Mathlib.Omega.{arith}
 use borrow.Author.Tests.{eq-eqb, ne-eqb}
 use borrow.Author.Needs.{needs}
@@ -36,7 +36,7 @@ shared-slice-read-result-3 : tie.Need-shared-slice-read-result-3
 shared-slice-read-result-3 c = search needs
 
 returns-2 : tie.Need-returns-2
-returns-2 c n s t heads = rw (ne-eqb _ _ (c .before .if1 .left))
+returns-2 c n s t heads = rw (ne-eqb _ _ (c .before .if1 .left)) (omega arith)
 
 pub residual-spec : {M : Type 1} → statement M
 residual-spec =

@@ -1,7 +1,8 @@
--- `run::search` meets its contract: the invariant: the first eligible place of the list is that of the rest from j.
+-- `search` meets its contract. The invariant: the first eligible place of the list is that of the rest from j.
 use Rattle.steps.proofs.Searching.{search-here, search-on, search-end}
-use Rattle.run.specs.Rows.{tableOf, stateOf}
-use Rattle.run.specs.Run.{firstEligible}
+use Rattle.run.specs.Rows.{stateOf}
+use Rattle.table.specs.Table.{tableOf}
+use Rattle.run.specs.Push.{firstEligible}
 use lib.ListN.{length, drop}
 use mathlib.Core.List.{List}
 use mathlib.Core.Path.{_≡_, refl, sym, _∙_}

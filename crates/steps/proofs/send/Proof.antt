@@ -1,4 +1,4 @@
--- `run::send` meets its contract: by the test on the tail.
+-- `send` meets its contract: by the test on the tail.
 use borrow.Author.Tests.{eq-eqb, ne-eqb}
 use borrow.Author.Needs.{needs}
 use Rattle.steps.proofs.send.Statement.{statement}

@@ -1,10 +1,12 @@
--- `run::shift` meets its contract: one store at i, and one at j unless j is source or sink.
+-- `shift` meets its contract: one store at i, and one at j unless j is source or sink.
 use Prim.Native.Nat.{ℕ, _-_}
 use mathlib.Core.List.{List}
-use Rattle.steps.proofs.Moving.{of-other, moved-source, moved-sink, moved-inner}
-use Rattle.run.specs.Rows.{tableOf}
-use Rattle.table.specs.Table.{of}
-use mathlib.Core.Path.{ap}
+use Rattle.steps.proofs.Moving.{moved-source, moved-sink, moved-inner}
+use Rattle.table.specs.Table.{tableOf}
+use Rattle.rows.specs.Row.{atNode}
+use mathlib.Core.Path.{ap, sym}
+use Rattle.rows.proofs.Sums.{put-other}
+use Rattle.rows.proofs.Rows.{node-set}
 use native.Mathlib.Omega.{arith}
 use borrow.Author.Needs.{needs}
 use Rattle.steps.proofs.shift.Statement.{statement}
@@ -39,7 +41,7 @@ returns-2 c n tails heads caps =
     let given = left .before .before .before .before .before .args in
     moved-sink (tableOf n (given .s) (given .t) tails heads caps) (given .excess .now) (given .i) (given .j) (given .d)
     (left .before .before .at-node .result) (left .set-node .last .0)
-    (left .before .before .at-node .ensures) (left .set-node .ensures) (c .before .if1 .left) (c .if2 .taken)
+    (left .before .before .at-node .ensures) (left .set-node .ensures) (c .if2 .taken)
 
 at-node-requires-2 : tie.Need-at-node-requires-2
 at-node-requires-2 c κs = search needs
@@ -48,9 +50,10 @@ add-set-node : tie.Need-add-set-node
 add-set-node c =
     let left = c .before .before .before .before .before .before .before in
     let start = left .before .before .before .before .before in
-    let kept = of-other (start .args .excess .now) (start .args .i) (start .args .j) (left .before .before .at-node .result - start .args .d) (start .pre .0 .0 .0) (start .pre .0 .1 .0) (start .pre .1 .0) in
-    let lowered = left .set-node .ensures in
-    omega (arith, ap (λ (row : List ℕ). of row (start .args .j)) lowered)
+    let row = start .args .excess .now in
+    let there = node-set row (start .args .i) (left .before .before .at-node .result - start .args .d) (start .pre .0 .0) in
+    let kept = put-other (atNode row) (start .args .i) (left .before .before .at-node .result - start .args .d) (start .args .j) (λ e. start .pre .1 .0 (sym e)) in
+    omega (arith, ap (λ (l : List ℕ). atNode l (start .args .j)) (left .set-node .ensures), ap (λ f. f (start .args .j)) there, kept)
 
 set-node-requires-2 : tie.Need-set-node-requires-2
 set-node-requires-2 c κs = search needs

@@ -1,7 +1,6 @@
--- `tried::print_marks` is safe and ends: the place stays within the row.
+-- `print_marks` is safe and ends: the place stays within the row.
 use Prim.Native.Nat.{_≤_, _-_}
 use lib.ListN.{length}
-use native.Mathlib.Omega.{arith}
 use borrow.Author.Needs.{needs}
 use Rattle.tried.proofs.print_marks.Statement.{statement}
 use Rattle.tried.proofs.print_marks.Tie as tie

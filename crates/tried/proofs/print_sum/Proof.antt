@@ -1,7 +1,6 @@
--- `tried::print_sum` is safe and ends: the place stays within the row.
+-- `print_sum` is safe and ends: the place stays within the row.
 use Prim.Native.Nat.{_≤_, _-_}
 use lib.ListN.{length}
-use native.Mathlib.Omega.{arith}
 use borrow.Author.Needs.{needs}
 use Rattle.tried.proofs.print_sum.Statement.{statement}
 use Rattle.tried.proofs.print_sum.Tie as tie

@@ -1,0 +1,85 @@
+-- Laws of a step over the work row: what its parts leave is a step of the definitions.
+use Prim.Native.Nat.{ℕ, _+_, _-_, _*_, _≤_}
+use native.Mathlib.Omega.{arith}
+use mathlib.Core.Path.{_≡_, ap, sym, _∙_}
+use mathlib.Core.Bool.{Bool}
+use mathlib.Core.List.{List, _++_, append-nil}
+use lib.ListN.{length, set, drop, replicate, drop-of-length-le}
+use lib.Seq.{drop-drop}
+use Rattle.rows.specs.Row.{byNode}
+use Rattle.table.specs.Table.{Table, tableOf, arcs}
+use Rattle.run.specs.Residual.{list}
+use Rattle.run.specs.Start.{State, startFlow, startLabelAt, start}
+use Rattle.run.specs.Choice.{chooseTo, choose}
+use Rattle.run.specs.Push.{firstEligible, saturates, push}
+use Rattle.run.specs.Relabel.{leastFar, top, newLabel, relabel}
+use Rattle.run.specs.Phase.{onePush, oneRelabel, stepAt, step}
+use Rattle.run.specs.Rows.{stateOf, runOf}
+use Rattle.run.specs.declared.Choice.{Choice}
+use Rattle.run.specs.declared.Counts.{Counts}
+use Rattle.run.specs.declared.Found.the-variants.{Place, Missing}
+use Rattle.steps.specs.Rows.{Pushed}
+use Rattle.lists.specs.Work.{startsAt, workEnd, listsPart, ElseSame, workNeed, cleared}
+
+-- States whose rows are equal are equal.
+pub same-state : {flow flow′ excess excess′ label label′ : List ℕ} → flow ≡ flow′ → excess ≡ excess′ → label ≡ label′
+    → stateOf flow excess label ≡ stateOf flow′ excess′ label′
+same-state p q r = rw (p, q, r)
+
+-- The choice that the code answers, of rows with a number for each node, is the choice.
+pub choice-is : (t : Table) (delta : ℕ) (st : State) (answer : Choice) → answer ≡ chooseTo delta (st .excess) (st .label) (length (st .label))
+    → length (st .label) ≡ t .nodes → answer ≡ choose t delta st
+unfolding choose
+choice-is t delta st answer e long = e ∙ ap (chooseTo delta (st .excess) (st .label)) long
+
+-- The label that the code answers, from node i's list, is the new one.
+pub label-is : (t : Table) (st : State) (i : ℕ) (places : List ℕ) (label : ℕ) → length (st .label) ≡ t .nodes → places ≡ list t i
+    → label ≡ leastFar (tableOf (length (st .label)) (t .source) (t .sink) (t .tails) (t .heads) (t .caps)) st i places (2 * length (st .label)) + 1
+    → label ≡ newLabel t st i
+label-is t st i places label long listed e =
+    e
+    ∙ ap (λ (n : ℕ). leastFar (tableOf n (t .source) (t .sink) (t .tails) (t .heads) (t .caps)) st i places (2 * n) + 1) long
+    ∙ ap (λ (l : List ℕ). leastFar t st i l (top t) + 1) listed
+
+-- What a push leaves is the state after it.
+pub pushed-state : {t : Table} {delta i k : ℕ} {st : State} {flow excess : List ℕ} {full : Bool} → Pushed t delta st i k flow excess full
+    → stateOf flow excess (st .label) ≡ push t delta st i k
+unfolding push
+pushed-state p = rw (p .flow-is, p .excess-is)
+
+module _ (t : Table) (delta : ℕ) (st : State) (counts : Counts) (i : ℕ) (after : State) (counted : Counts) where
+  -- Where the search found a place a step is a push along it,
+  pub step-push : (k : ℕ) (full : Bool) → Place k ≡ firstEligible t st i (list t i) → after ≡ push t delta st i k
+      → full ≡ saturates t delta st i k → counted ≡ onePush counts full → runOf after counted ≡ step t delta (runOf st counts) i
+  unfolding step stepAt
+  step-push k full found state-is full-is counts-are = rw (← found, state-is, counts-are, full-is)
+
+  -- and where it found none a step is a relabel.
+  pub step-relabel : (label : ℕ) → Missing ≡ firstEligible t st i (list t i) → label ≡ newLabel t st i
+      → after ≡ stateOf (st .flow) (st .excess) (set (st .label) (i - 1) label) → counted ≡ oneRelabel counts
+      → runOf after counted ≡ step t delta (runOf st counts) i
+  unfolding step stepAt relabel
+  step-relabel label found label-is state-is counts-are = rw (← found, state-is, counts-are, label-is)
+
+-- The rows of the start make its state.
+pub start-is : (t : Table) (before flow excess label : List ℕ) → length before ≡ arcs t → flow ≡ startFlow t ++ drop (arcs t) before
+    → excess ≡ start t .excess → label ≡ byNode (startLabelAt t) (t .nodes) → stateOf flow excess label ≡ start t
+unfolding start
+start-is t before flow excess label long flow-is excess-is label-is =
+    let past : length before ≤ arcs t = omega arith in
+    same-state (flow-is ∙ rw (drop-of-length-le before past, append-nil)) excess-is label-is
+
+-- With its numbers cleared the work row is as it was behind them, though lists were filled in and a run was made.
+pub cleared-is : (n m need : ℕ) → need ≡ workNeed n m → (before filled after : List ℕ) → ElseSame n m before filled → listsPart n after ≡ listsPart n filled
+    → replicate need 0 ++ drop need after ≡ cleared (workNeed n m) before
+cleared-is n m need e before filled after else lists =
+    let far : startsAt n + (workNeed n m - startsAt n) ≡ workNeed n m = omega arith in
+    let end : workEnd n m ≡ workNeed n m = omega arith in
+    let rest : drop (workNeed n m) after ≡ drop (workNeed n m) before =
+    ap (λ (j : ℕ). drop j after) (sym far)
+    ∙ sym (drop-drop (workNeed n m - startsAt n) (startsAt n) after)
+    ∙ ap (drop (workNeed n m - startsAt n)) lists
+    ∙ drop-drop (workNeed n m - startsAt n) (startsAt n) filled
+    ∙ ap (λ (j : ℕ). drop j filled) far
+    ∙ (rw end at (else .back)) in
+    rw (e, rest)
