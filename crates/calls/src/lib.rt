@@ -1,0 +1,47 @@
+// The front door's calls for a program in C or Rust to link, as the host's comparisons do: the planner's own, under names of their own.
+ghost use mathlib.Core.Path.{_≡_};
+ghost use Rattle.table.specs.Table.{tableOf};
+ghost use Rattle.planner.specs.Solving.{left, solving, Meets};
+ghost use Rattle.planner.specs.Reading.{reading};
+use planner::Answer;
+use planner::Reading;
+
+// `planner::solve`.
+#[no_mangle]
+pub extern "C" fn jorrabide_solve(
+    n: u32,
+    s: u32,
+    t: u32,
+    stamp: u32,
+    tails: &[u32],
+    heads: &[u32],
+    caps: &[u32],
+    flow: &mut [u32],
+    side: &mut [u8],
+    work: &mut [u32],
+) -> Answer
+    ensures exact { λ r. ⌜ left r (now (flow .exit)) (now (side .exit)) (now (work .exit)) ≡ solving (tableOf n s t (now (tails .entry)) (now (heads .entry)) (now (caps .entry))) stamp (now (flow .entry)) (now (side .entry)) (now (work .entry)) ⌝ }
+    ensures best { λ r. ⌜ (r .refusal ≡ 0 → Meets (tableOf n s t (now (tails .entry)) (now (heads .entry)) (now (caps .entry))) (left r (now (flow .exit)) (now (side .exit)) (now (work .exit)))) ⌝ }
+{
+    planner::solve(n, s, t, stamp, tails, heads, caps, flow, side, work)
+}
+
+// `planner::read_place`.
+#[no_mangle]
+pub extern "C" fn jorrabide_read_place(
+    n: u32,
+    s: u32,
+    t: u32,
+    stamp: u32,
+    tails: &[u32],
+    heads: &[u32],
+    caps: &[u32],
+    answer: u32,
+    flow: &[u32],
+    side: &[u8],
+    place: u32,
+) -> Reading
+    ensures { λ r. ⌜ r ≡ reading (tableOf n s t (now (tails .entry)) (now (heads .entry)) (now (caps .entry))) stamp answer (now (flow .entry)) (now (side .entry)) place ⌝ }
+{
+    planner::read_place(n, s, t, stamp, tails, heads, caps, answer, flow, side, place)
+}

@@ -1,0 +1,109 @@
+/* The caller: takes calls from standard input, makes them through the static library, and writes on standard output what came back
+   and every lent row. All numbers are 32 bits and little-endian, marks one byte each.
+
+   A call: kind (1 solve, 2 read by place), n, s, t, the table's stamp, the answer's stamp, the place, the six rows' lengths (tails, heads,
+   capacities, flow, side, work), then the rows. Solving has no answer's stamp and no place, reading no work row: they are 0 and empty.
+   What is written: nine 64-bit numbers (the answer's, or the reading's five and 0), then the six rows, then 1 if nothing was written beside them. */
+#include <stdint.h>
+#include <stdlib.h>
+#include <string.h>
+#include <unistd.h>
+
+#include "jorrabide.h"
+
+enum { TAILS, HEADS, CAPACITIES, FLOW, SIDE, WORK, ROWS };
+enum { KIND, NODES, SOURCE, SINK, STAMP, ANSWER_STAMP, PLACE, LENGTHS, HEADER = LENGTHS + ROWS };
+enum { FENCE = 64, FENCE_BYTE = 0xA5 };
+
+struct row {
+    unsigned char *memory;
+    size_t bytes;
+    size_t length;
+};
+
+/* Reads exactly this many bytes; 0 at the end of the input. */
+static int read_all(void *to, size_t bytes) {
+    unsigned char *at = to;
+    while (bytes > 0) {
+        ssize_t got = read(STDIN_FILENO, at, bytes);
+        if (got <= 0) return 0;
+        at += got;
+        bytes -= (size_t)got;
+    }
+    return 1;
+}
+
+/* Writes exactly this many bytes. */
+static void write_all(const void *from, size_t bytes) {
+    const unsigned char *at = from;
+    while (bytes > 0) {
+        ssize_t put = write(STDOUT_FILENO, at, bytes);
+        if (put <= 0) exit(1);
+        at += put;
+        bytes -= (size_t)put;
+    }
+}
+
+/* Reads a row into memory of its own, between two fences. */
+static struct row read_row(size_t length, size_t width) {
+    struct row row = {malloc(length * width + 2 * FENCE), length * width, length};
+    if (row.memory == NULL) exit(1);
+    memset(row.memory, FENCE_BYTE, row.bytes + 2 * FENCE);
+    if (!read_all(row.memory + FENCE, row.bytes)) exit(1);
+    return row;
+}
+
+/* The numbers of a row. */
+static uint32_t *numbers(struct row row) { return (uint32_t *)(row.memory + FENCE); }
+
+/* 1 if both fences of a row are as they were. */
+static int is_fenced(struct row row) {
+    for (size_t k = 0; k < FENCE; k++)
+        if (row.memory[k] != FENCE_BYTE || row.memory[FENCE + row.bytes + k] != FENCE_BYTE) return 0;
+    return 1;
+}
+
+/* Makes the call of solving. */
+static void call_solve(const uint32_t *call, const struct row *rows, uint64_t *result) {
+    struct jorrabide_answer answer = jorrabide_solve(
+        call[NODES], call[SOURCE], call[SINK], call[STAMP],
+        numbers(rows[TAILS]), rows[TAILS].length, numbers(rows[HEADS]), rows[HEADS].length,
+        numbers(rows[CAPACITIES]), rows[CAPACITIES].length, numbers(rows[FLOW]), rows[FLOW].length,
+        rows[SIDE].memory + FENCE, rows[SIDE].length, numbers(rows[WORK]), rows[WORK].length);
+    const uint64_t fields[9] = {answer.refusal, answer.place, answer.stamp, answer.value, answer.scale,
+                                answer.phases, answer.saturating, answer.nonsaturating, answer.relabels};
+    memcpy(result, fields, sizeof fields);
+}
+
+/* Makes the call of reading by place. */
+static void call_read_place(const uint32_t *call, const struct row *rows, uint64_t *result) {
+    struct jorrabide_reading reading = jorrabide_read_place(
+        call[NODES], call[SOURCE], call[SINK], call[STAMP],
+        numbers(rows[TAILS]), rows[TAILS].length, numbers(rows[HEADS]), rows[HEADS].length,
+        numbers(rows[CAPACITIES]), rows[CAPACITIES].length, call[ANSWER_STAMP],
+        numbers(rows[FLOW]), rows[FLOW].length, rows[SIDE].memory + FENCE, rows[SIDE].length, call[PLACE]);
+    const uint64_t fields[9] = {reading.refusal, reading.place, reading.flow, reading.capacity, reading.crossing};
+    memcpy(result, fields, sizeof fields);
+}
+
+int main(void) {
+    uint32_t call[HEADER];
+    while (read_all(call, sizeof call)) {
+        struct row rows[ROWS];
+        for (int k = 0; k < ROWS; k++) rows[k] = read_row(call[LENGTHS + k], k == SIDE ? 1 : 4);
+        uint64_t result[9];
+        if (call[KIND] == 1)
+            call_solve(call, rows, result);
+        else
+            call_read_place(call, rows, result);
+        write_all(result, sizeof result);
+        uint32_t fenced = 1;
+        for (int k = 0; k < ROWS; k++) {
+            write_all(rows[k].memory + FENCE, rows[k].bytes);
+            if (!is_fenced(rows[k])) fenced = 0;
+            free(rows[k].memory);
+        }
+        write_all(&fenced, sizeof fenced);
+    }
+    return 0;
+}

@@ -1,0 +1,180 @@
+//! The comparisons: random texts through the built desk, random calls through the static library, each beside this program's own answer.
+
+pub mod calls;
+pub mod random;
+pub mod tables;
+pub mod texts;
+
+use self::calls::{expected, random_call, sent, Kind};
+use self::texts::random_text;
+use crate::desk::desk;
+use crate::refusal::Name;
+use std::collections::BTreeMap;
+use std::io::{Read, Write};
+use std::process::{Child, Command, Stdio};
+use std::thread;
+
+/// How many cases, from which seed, and the words of the command that is compared with.
+#[derive(Clone)]
+pub struct Comparison {
+    pub count: u64,
+    pub seed: u64,
+    pub command: Vec<String>,
+}
+
+/// From so many cases on, a comparison must have seen all that it is for.
+pub const ENOUGH: u64 = 5_000;
+
+/// What was seen: how often each thing came, and the cases that differed.
+#[derive(Default)]
+pub struct Seen {
+    pub times: BTreeMap<String, u64>,
+    pub differing: Vec<u64>,
+}
+
+impl Seen {
+    /// Counts a thing that was seen.
+    fn count(&mut self, thing: String) {
+        *self.times.entry(thing).or_insert(0) += 1;
+    }
+
+    /// Takes over what another part of the comparison saw.
+    fn join(&mut self, other: Seen) {
+        for (thing, times) in other.times {
+            *self.times.entry(thing).or_insert(0) += times;
+        }
+        self.differing.extend(other.differing);
+    }
+}
+
+/// Starts the command with its input and output held by us.
+fn started(command: &[String]) -> Child {
+    Command::new(&command[0])
+        .args(&command[1..])
+        .stdin(Stdio::piped())
+        .stdout(Stdio::piped())
+        .spawn()
+        .unwrap_or_else(|error| panic!("{}: {error}", command[0]))
+}
+
+/// What the command prints for this standard input, or that it ended badly. It may end before it has read all.
+fn printed(command: &[String], input: &[u8]) -> Vec<u8> {
+    let mut child = started(command);
+    let mut stdin = child.stdin.take().expect("its input is ours");
+    let _ = stdin.write_all(input);
+    drop(stdin);
+    let output = child.wait_with_output().expect("its output is ours");
+    if !output.status.success() {
+        return format!("ended by {}", output.status).into_bytes();
+    }
+    output.stdout
+}
+
+/// The first line of an answer up to its equals sign or, of a refusal, its name.
+fn outcome(answer: &[u8]) -> String {
+    let line = answer.split(|byte| *byte == b'\n').next().unwrap_or_default();
+    let line = String::from_utf8_lossy(line);
+    match line.strip_prefix("refusal=") {
+        Some(name) => name.to_string(),
+        None => "solved".to_string(),
+    }
+}
+
+/// Compares every `step`-th text from `first` on.
+fn compare_some_texts(comparison: &Comparison, first: u64, step: u64) -> Seen {
+    let mut seen = Seen::default();
+    for index in (first..comparison.count).step_by(step as usize) {
+        let (text, brought) = random_text(comparison.seed, index);
+        let ours = desk(&text);
+        let theirs = printed(&comparison.command, &text);
+        if ours != theirs {
+            seen.differing.push(index);
+            println!("text {index} at seed {} differs:", comparison.seed);
+            println!("-- the judge:\n{}", String::from_utf8_lossy(&ours));
+            println!("-- the desk:\n{}", String::from_utf8_lossy(&theirs));
+        }
+        seen.count(outcome(&ours));
+        seen.count(format!("of {} bytes", length_class(text.len())));
+        for thing in brought {
+            seen.count(thing);
+        }
+    }
+    seen
+}
+
+/// A text's length where it is at the desk's bound.
+fn length_class(length: usize) -> &'static str {
+    match length {
+        0 => "0",
+        65_536 => "65536",
+        65_537 => "65537",
+        65_538.. => "more",
+        _ => "fewer",
+    }
+}
+
+/// Compares texts on all processors.
+pub fn compare_texts(comparison: &Comparison) -> Seen {
+    let parts = thread::available_parallelism().map_or(1, |parts| parts.get() as u64);
+    let mut seen = Seen::default();
+    thread::scope(|scope| {
+        let running: Vec<_> = (0..parts)
+            .map(|part| scope.spawn(move || compare_some_texts(comparison, part, parts)))
+            .collect();
+        for part in running {
+            seen.join(part.join().expect("a part of the comparison"));
+        }
+    });
+    seen
+}
+
+/// What every comparison of texts must have seen: each damage and bound, each refusal of a text, each length at the desk's bound.
+pub fn wanted_of_texts() -> Vec<String> {
+    use Name::*;
+    let names = [Nodes, Arcs, Ends, Node, Loop, Capacity, Line, Count, Long];
+    let mut wanted = vec!["solved".to_string()];
+    wanted.extend(names.map(|name| name.word().to_string()));
+    wanted.extend(["0", "65536", "65537", "more"].map(|length| format!("of {length} bytes")));
+    wanted.extend(texts::wanted());
+    wanted
+}
+
+/// Makes each call through the caller, and compares all that comes back.
+pub fn compare_calls(comparison: &Comparison) -> Seen {
+    let mut caller = started(&comparison.command);
+    let mut to = caller.stdin.take().expect("its input is ours");
+    let mut from = caller.stdout.take().expect("its output is ours");
+    let mut seen = Seen::default();
+    for index in 0..comparison.count {
+        let mut call = random_call(comparison.seed, index);
+        to.write_all(&sent(&call)).expect("the caller takes the call");
+        let (refusal, ours) = expected(&mut call);
+        let mut theirs = vec![0; ours.len()];
+        from.read_exact(&mut theirs).expect("the caller answers");
+        if ours != theirs {
+            seen.differing.push(index);
+            let at = (0..ours.len()).find(|k| ours[*k] != theirs[*k]).unwrap_or(0);
+            println!(
+                "call {index} at seed {} differs, first at byte {at} of the answer",
+                comparison.seed
+            );
+        }
+        seen.count(called(call.kind, refusal));
+    }
+    drop(to);
+    let ended = caller.wait().expect("the caller ends");
+    assert!(ended.success(), "the caller ends well");
+    seen
+}
+
+/// A call and how it ended.
+fn called(kind: Kind, refusal: u64) -> String {
+    format!("{kind:?} {refusal:2}")
+}
+
+/// What every comparison of calls must have seen: each refusal of each call, and that it was made.
+pub fn wanted_of_calls() -> Vec<String> {
+    let mut wanted: Vec<String> = (0..=8).map(|number| called(Kind::Solve, number)).collect();
+    wanted.extend((0..=12).map(|number| called(Kind::ReadPlace, number)));
+    wanted
+}

@@ -1,0 +1,108 @@
+//! The command line of the judge.
+
+use judge::compare::texts::random_text;
+use judge::compare::{compare_calls, compare_texts, wanted_of_calls, wanted_of_texts, Comparison, Seen, ENOUGH};
+use judge::desk::desk;
+use std::io::{self, Read, Write};
+use std::path::Path;
+use std::process::ExitCode;
+
+const USAGE: &str = "usage:
+  judge desk <TEXT                        what the desk prints for a text
+  judge stored FOLDER                     what the program of the stored runs prints, from its args and data/
+  judge text SEED INDEX                   a text of the comparison
+  judge texts COUNT SEED COMMAND WORD..   random texts through a desk
+  judge calls COUNT SEED COMMAND WORD..   random calls through a caller";
+
+/// Writes what the desk program prints for standard input.
+fn answer_input() -> io::Result<bool> {
+    let mut text = Vec::new();
+    io::stdin().lock().read_to_end(&mut text)?;
+    io::stdout().write_all(&desk(&text))?;
+    Ok(true)
+}
+
+/// Writes each stored text's name and what the desk program prints for it.
+fn answer_stored(folder: &Path) -> io::Result<bool> {
+    let names = std::fs::read_to_string(folder.join("args"))?;
+    for name in names.lines() {
+        let text = std::fs::read(folder.join("data").join(name))?;
+        println!("{name}");
+        io::stdout().write_all(&desk(&text))?;
+    }
+    Ok(true)
+}
+
+/// Writes one random text, to look at it, and on standard error what it brings.
+fn write_text(seed: u64, index: u64) -> io::Result<bool> {
+    let (text, brought) = random_text(seed, index);
+    eprintln!("{}", brought.join(", "));
+    io::stdout().write_all(&text)?;
+    Ok(true)
+}
+
+/// Tells what a comparison saw; true if nothing differed and, in enough cases, everything wanted was there.
+fn told(what: &str, comparison: &Comparison, seen: &Seen, wanted: &[String]) -> io::Result<bool> {
+    let times: Vec<String> = seen
+        .times
+        .iter()
+        .map(|(thing, times)| format!("{thing}: {times}"))
+        .collect();
+    println!("{}", times.join(", "));
+    let missing: Vec<&String> = wanted.iter().filter(|thing| !seen.times.contains_key(*thing)).collect();
+    let (count, seed, differing) = (comparison.count, comparison.seed, seen.differing.len());
+    if !missing.is_empty() {
+        println!("never seen: {missing:?}");
+    }
+    println!("{count} {what} at seed {seed}, {differing} differences");
+    Ok(differing == 0 && (missing.is_empty() || count < ENOUGH))
+}
+
+/// The number that an argument gives.
+fn number(argument: &str) -> io::Result<u64> {
+    argument
+        .parse()
+        .map_err(|_| io::Error::other(format!("{argument} is no number")))
+}
+
+/// The comparison that the arguments give.
+fn comparison(count: &str, seed: &str, command: &[&str]) -> io::Result<Comparison> {
+    let command = command.iter().map(|word| word.to_string()).collect();
+    Ok(Comparison {
+        count: number(count)?,
+        seed: number(seed)?,
+        command,
+    })
+}
+
+/// Takes the arguments and runs what they ask for.
+fn run(arguments: &[&str]) -> io::Result<bool> {
+    match arguments {
+        ["desk"] => answer_input(),
+        ["stored", folder] => answer_stored(Path::new(folder)),
+        ["text", seed, index] => write_text(number(seed)?, number(index)?),
+        ["texts", count, seed, command @ ..] if !command.is_empty() => {
+            let comparison = comparison(count, seed, command)?;
+            told("texts", &comparison, &compare_texts(&comparison), &wanted_of_texts())
+        }
+        ["calls", count, seed, command @ ..] if !command.is_empty() => {
+            let comparison = comparison(count, seed, command)?;
+            told("calls", &comparison, &compare_calls(&comparison), &wanted_of_calls())
+        }
+        _ => Err(io::Error::other(USAGE)),
+    }
+}
+
+/// The program ends in 0 where all went well and nothing differed.
+fn main() -> ExitCode {
+    let arguments: Vec<String> = std::env::args().skip(1).collect();
+    let words: Vec<&str> = arguments.iter().map(String::as_str).collect();
+    match run(&words) {
+        Ok(true) => ExitCode::SUCCESS,
+        Ok(false) => ExitCode::FAILURE,
+        Err(error) => {
+            eprintln!("{error}");
+            ExitCode::from(2)
+        }
+    }
+}

@@ -1,0 +1,83 @@
+//! Solving a table into lent rows.
+
+use crate::refusal::Refusal;
+use crate::run::run;
+use crate::table::{check, Table};
+
+/// What comes back from a solved table, or a refusal with all other fields 0.
+#[derive(Clone, Copy, PartialEq, Eq, Debug, Default)]
+pub struct Answer {
+    pub refusal: u32,
+    pub place: u32,
+    pub stamp: u32,
+    pub value: u64,
+    pub scale: u64,
+    pub phases: u32,
+    pub saturating: u64,
+    pub nonsaturating: u64,
+    pub relabels: u64,
+}
+
+/// How many numbers of the work row a table needs: 4n + 2m + 1.
+pub fn work_need(table: &Table) -> u64 {
+    4 * u64::from(table.n) + 2 * table.arcs() as u64 + 1
+}
+
+/// Whether the flow, side and work rows are as long as document 01 says.
+fn has_room(table: &Table, flow: &[u32], side: &[u8], work: &[u32]) -> bool {
+    flow.len() >= table.arcs() && side.len() as u64 >= u64::from(table.n) && work.len() as u64 >= work_need(table)
+}
+
+/// The value, the net flow out of s.
+fn value(table: &Table, flow: &[u32]) -> u64 {
+    let mut out_of_source = 0;
+    let mut into_source = 0;
+    for (place, amount) in flow.iter().enumerate() {
+        if table.tails[place] == table.s {
+            out_of_source += u64::from(*amount);
+        }
+        if table.heads[place] == table.s {
+            into_source += u64::from(*amount);
+        }
+    }
+    out_of_source - into_source
+}
+
+/// Solves a table into the lent rows, or gives a refusal and leaves every row unchanged.
+pub fn try_solve(
+    table: &Table,
+    stamp: u32,
+    flow: &mut [u32],
+    side: &mut [u8],
+    work: &mut [u32],
+) -> Result<Answer, Refusal> {
+    check(table, has_room(table, flow, side, work))?;
+    let outcome = run(table);
+    let marks = crate::side::side(table, &outcome.flow);
+    flow[..table.arcs()].copy_from_slice(&outcome.flow);
+    side[..table.n as usize].copy_from_slice(&marks);
+    work[..work_need(table) as usize].fill(0);
+    Ok(Answer {
+        refusal: 0,
+        place: 0,
+        stamp,
+        value: value(table, &outcome.flow),
+        scale: outcome.scale,
+        phases: outcome.phases,
+        saturating: outcome.counts.saturating,
+        nonsaturating: outcome.counts.nonsaturating,
+        relabels: outcome.counts.relabels,
+    })
+}
+
+/// Solves a table into the lent rows and answers a refusal by its number and place.
+pub fn solve(table: &Table, stamp: u32, flow: &mut [u32], side: &mut [u8], work: &mut [u32]) -> Answer {
+    match try_solve(table, stamp, flow, side, work) {
+        Ok(answer) => answer,
+        Err(refusal) => Answer {
+            refusal: refusal.name.number(),
+            place: refusal.place,
+            ..Answer::default()
+        },
+    }
+}

@@ -1,0 +1,173 @@
+//! Reading a table from a text.
+
+use crate::refusal::{Name, Refusal};
+use crate::table::{check, Table};
+
+/// The greatest length of a text in bytes.
+pub const LONGEST_TEXT: usize = 1_048_576;
+
+/// What reading a text returns beside the three arc rows.
+#[derive(Clone, Copy, PartialEq, Eq, Debug)]
+pub struct Given {
+    pub n: u32,
+    pub m: u32,
+    pub s: u32,
+    pub t: u32,
+}
+
+/// What the lines so far have given.
+#[derive(Default)]
+struct Gathered {
+    size: Option<(u32, u32)>,
+    source: Option<u32>,
+    sink: Option<u32>,
+    tails: Vec<u32>,
+    heads: Vec<u32>,
+    capacities: Vec<u32>,
+}
+
+impl Gathered {
+    /// Judges the next line and takes in what it gives.
+    fn take_line(&mut self, line: &[u8]) -> Result<(), Name> {
+        if line.first() == Some(&b'c') {
+            return Ok(());
+        }
+        let Some((_, m)) = self.size else {
+            self.size = Some(size_line(line).ok_or(Name::Line)?);
+            return Ok(());
+        };
+        if self.source.is_none() || self.sink.is_none() {
+            return self.take_end(line);
+        }
+        self.take_arc(line, m)
+    }
+
+    /// Takes in an n line, the first one for the source or the first one for the sink.
+    fn take_end(&mut self, line: &[u8]) -> Result<(), Name> {
+        let (node, letter) = end_line(line).ok_or(Name::Line)?;
+        let end = match letter {
+            b's' => &mut self.source,
+            b't' => &mut self.sink,
+            _ => return Err(Name::Line),
+        };
+        if end.is_some() {
+            return Err(Name::Line);
+        }
+        *end = Some(node);
+        Ok(())
+    }
+
+    /// Takes in an arc line unless it is one too many.
+    fn take_arc(&mut self, line: &[u8], m: u32) -> Result<(), Name> {
+        let [tail, head, capacity] = arc_line(line).ok_or(Name::Line)?;
+        if self.tails.len() as u64 >= u64::from(m) {
+            return Err(Name::Count);
+        }
+        self.tails.push(tail);
+        self.heads.push(head);
+        self.capacities.push(capacity);
+        Ok(())
+    }
+
+    /// Judges the end of the text.
+    fn finish(&self) -> Result<Given, Name> {
+        let (Some((n, m)), Some(s), Some(t)) = (self.size, self.source, self.sink) else {
+            return Err(Name::Line);
+        };
+        if (self.tails.len() as u64) < u64::from(m) {
+            return Err(Name::Count);
+        }
+        Ok(Given { n, m, s, t })
+    }
+}
+
+/// The lines of a text without their LF, where the last LF may be missing.
+fn lines(text: &[u8]) -> impl Iterator<Item = &[u8]> {
+    text.split_inclusive(|byte| *byte == b'\n')
+        .map(|line| line.strip_suffix(b"\n").unwrap_or(line))
+}
+
+/// Reads a number of 1 to 10 digits without a leading zero, at most 4,294,967,295.
+fn number(field: &[u8]) -> Option<u32> {
+    if field.is_empty() || field.len() > 10 {
+        return None;
+    }
+    if field[0] == b'0' && field.len() > 1 {
+        return None;
+    }
+    let mut sum: u64 = 0;
+    for byte in field {
+        if !byte.is_ascii_digit() {
+            return None;
+        }
+        sum = 10 * sum + u64::from(*byte - b'0');
+    }
+    u32::try_from(sum).ok()
+}
+
+/// Reads exactly so many numbers, parted by exactly one blank.
+fn numbers<const COUNT: usize>(bytes: &[u8]) -> Option<[u32; COUNT]> {
+    let mut fields = bytes.split(|byte| *byte == b' ');
+    let mut read = [0; COUNT];
+    for place in read.iter_mut() {
+        *place = number(fields.next()?)?;
+    }
+    match fields.next() {
+        Some(_) => None,
+        None => Some(read),
+    }
+}
+
+/// Reads the line that begins with the fixed bytes and goes on with n and m.
+fn size_line(line: &[u8]) -> Option<(u32, u32)> {
+    let [n, m] = numbers(line.strip_prefix(b"p max ")?)?;
+    Some((n, m))
+}
+
+/// Reads a line with n, a number and a last field of one byte.
+fn end_line(line: &[u8]) -> Option<(u32, u8)> {
+    match line.strip_prefix(b"n ")? {
+        [field @ .., b' ', letter] => Some((number(field)?, *letter)),
+        _ => None,
+    }
+}
+
+/// Reads a line with a, the tail, the head and the capacity.
+fn arc_line(line: &[u8]) -> Option<[u32; 3]> {
+    numbers(line.strip_prefix(b"a ")?)
+}
+
+/// Judges a text in line order, then its end at one past the last line.
+fn judge_lines(text: &[u8]) -> Result<(Given, Gathered), Refusal> {
+    let mut gathered = Gathered::default();
+    let mut line_number = 1;
+    for line in lines(text) {
+        gathered.take_line(line).map_err(|name| name.at(line_number))?;
+        line_number += 1;
+    }
+    let given = gathered.finish().map_err(|name| name.at(line_number))?;
+    Ok((given, gathered))
+}
+
+/// Reads a text, then judges the table that it gives and writes the three arc rows.
+pub fn read(text: &[u8], tails: &mut [u32], heads: &mut [u32], capacities: &mut [u32]) -> Result<Given, Refusal> {
+    if text.len() > LONGEST_TEXT {
+        return Err(Name::Long.at(0));
+    }
+    let (given, gathered) = judge_lines(text)?;
+    let table = Table {
+        n: given.n,
+        s: given.s,
+        t: given.t,
+        tails: &gathered.tails,
+        heads: &gathered.heads,
+        capacities: &gathered.capacities,
+    };
+    let m = table.arcs();
+    let has_room = tails.len() >= m && heads.len() >= m && capacities.len() >= m;
+    check(&table, has_room)?;
+    tails[..m].copy_from_slice(table.tails);
+    heads[..m].copy_from_slice(table.heads);
+    capacities[..m].copy_from_slice(table.capacities);
+    Ok(given)
+}

@@ -1,0 +1,53 @@
+/* Jorrabide's calls for C, of the static library that `rt staticlib calls` writes (x86-64).
+   docs/PROMISES.md says what each promises. Any numbers and rows are answered; rows that are written must not overlap another row. */
+#ifndef JORRABIDE_H
+#define JORRABIDE_H
+
+#include <stddef.h>
+#include <stdint.h>
+
+/* What solving returns: a refusal's number and place and 0 elsewhere, or refusal 0 and the results. */
+struct jorrabide_answer {
+    uint32_t refusal;
+    uint32_t place;
+    uint32_t stamp;
+    uint64_t value;
+    uint64_t scale;
+    uint32_t phases;
+    uint64_t saturating;
+    uint64_t nonsaturating;
+    uint64_t relabels;
+};
+
+/* What reading by place returns: a refusal's number and place and 0 elsewhere, or refusal 0 and what stands there. */
+struct jorrabide_reading {
+    uint32_t refusal;
+    uint32_t place;
+    uint32_t flow;
+    uint32_t capacity;
+    uint32_t crossing;
+};
+
+/* Solves the table of n nodes, source s, sink t and three rows of arcs. The flow row needs as many numbers as there are arcs,
+   the side row n marks, the work row 4n + 2m + 1 numbers. */
+struct jorrabide_answer jorrabide_solve(
+    uint32_t n, uint32_t s, uint32_t t, uint32_t stamp,
+    const uint32_t *tails, size_t tails_length,
+    const uint32_t *heads, size_t heads_length,
+    const uint32_t *capacities, size_t capacities_length,
+    uint32_t *flow, size_t flow_length,
+    uint8_t *side, size_t side_length,
+    uint32_t *work, size_t work_length);
+
+/* Reads an answer, its stamp, flow row and side row, at a place of the table that has this stamp now. */
+struct jorrabide_reading jorrabide_read_place(
+    uint32_t n, uint32_t s, uint32_t t, uint32_t stamp,
+    const uint32_t *tails, size_t tails_length,
+    const uint32_t *heads, size_t heads_length,
+    const uint32_t *capacities, size_t capacities_length,
+    uint32_t answer_stamp,
+    const uint32_t *flow, size_t flow_length,
+    const uint8_t *side, size_t side_length,
+    uint32_t place);
+
+#endif
