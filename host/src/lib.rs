@@ -3,6 +3,7 @@
 
 pub mod compare;
 pub mod desk;
+pub mod families;
 pub mod reading;
 pub mod refusal;
 pub mod run;

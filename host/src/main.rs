@@ -10,6 +10,7 @@ use std::process::ExitCode;
 const USAGE: &str = "usage:
   judge desk <TEXT                        what the desk prints for a text
   judge stored FOLDER                     what the program of the stored runs prints, from its args and data/
+  judge families [full]                   what the program of seeded tables prints, small or at full size
   judge text SEED INDEX                   a text of the comparison
   judge texts COUNT SEED COMMAND WORD..   random texts through a desk
   judge calls COUNT SEED COMMAND WORD..   random calls through a caller";
@@ -30,6 +31,12 @@ fn answer_stored(folder: &Path) -> io::Result<bool> {
         println!("{name}");
         io::stdout().write_all(&desk(&text))?;
     }
+    Ok(true)
+}
+
+/// Writes a line for each family of seeded tables.
+fn write_families(full: bool) -> io::Result<bool> {
+    print!("{}", judge::families::lines(full));
     Ok(true)
 }
 
@@ -80,6 +87,8 @@ fn run(arguments: &[&str]) -> io::Result<bool> {
     match arguments {
         ["desk"] => answer_input(),
         ["stored", folder] => answer_stored(Path::new(folder)),
+        ["families"] => write_families(false),
+        ["families", "full"] => write_families(true),
         ["text", seed, index] => write_text(number(seed)?, number(index)?),
         ["texts", count, seed, command @ ..] if !command.is_empty() => {
             let comparison = comparison(count, seed, command)?;

@@ -27,6 +27,15 @@ impl OwnTable {
         }
     }
 
+    /// Makes a table of arcs that are given as tail, head and capacity.
+    pub fn with_arcs(n: u32, s: u32, t: u32, arcs: &[(u32, u32, u32)]) -> OwnTable {
+        let mut table = OwnTable::without_arcs(n, s, t);
+        for (tail, head, capacity) in arcs {
+            table.add(*tail, *head, *capacity);
+        }
+        table
+    }
+
     /// The table, lent.
     pub fn lent(&self) -> Table<'_> {
         Table {
