@@ -3,6 +3,7 @@
 use judge::compare::texts::random_text;
 use judge::compare::{compare_calls, compare_texts, wanted_of_calls, wanted_of_texts, Comparison, Seen, ENOUGH};
 use judge::desk::desk;
+use judge::families::{lines, FAMILIES};
 use std::io::{self, Read, Write};
 use std::path::Path;
 use std::process::ExitCode;
@@ -11,6 +12,7 @@ const USAGE: &str = "usage:
   judge desk <TEXT                        what the desk prints for a text
   judge stored FOLDER                     what the program of the stored runs prints, from its args and data/
   judge families [full]                   what the program of seeded tables prints, small or at full size
+  judge family NUMBER N M                 the table of a family, from 1, as a text
   judge text SEED INDEX                   a text of the comparison
   judge texts COUNT SEED COMMAND WORD..   random texts through a desk
   judge calls COUNT SEED COMMAND WORD..   random calls through a caller";
@@ -36,7 +38,16 @@ fn answer_stored(folder: &Path) -> io::Result<bool> {
 
 /// Writes a line for each family of seeded tables.
 fn write_families(full: bool) -> io::Result<bool> {
-    print!("{}", judge::families::lines(full));
+    print!("{}", lines(full));
+    Ok(true)
+}
+
+/// Writes the table of a family as a text.
+fn write_family(which: &str, n: &str, m: &str) -> io::Result<bool> {
+    let family = FAMILIES.get((number(which)? as usize).wrapping_sub(1));
+    let family = family.ok_or(io::Error::other("families are numbered from 1 to 9"))?;
+    let table = family.table(number(n)? as u32, number(m)? as u32);
+    print!("{}", table.text());
     Ok(true)
 }
 
@@ -89,6 +100,7 @@ fn run(arguments: &[&str]) -> io::Result<bool> {
         ["stored", folder] => answer_stored(Path::new(folder)),
         ["families"] => write_families(false),
         ["families", "full"] => write_families(true),
+        ["family", number, n, m] => write_family(number, n, m),
         ["text", seed, index] => write_text(number(seed)?, number(index)?),
         ["texts", count, seed, command @ ..] if !command.is_empty() => {
             let comparison = comparison(count, seed, command)?;

@@ -313,16 +313,6 @@ fn the_desk_prints_refusals_and_the_table_without_arcs() {
     assert_eq!(desk(more.as_bytes()), b"refusal=ARCS\nplace=0\n");
 }
 
-/// Writes the text of a table.
-fn text_of(table: &OwnTable) -> String {
-    let mut text = format!("p max {} {}\nn {} s\nn {} t\n", table.n, table.arcs(), table.s, table.t);
-    for place in 0..table.arcs() {
-        let (tail, head, capacity) = (table.tails[place], table.heads[place], table.capacities[place]);
-        text += &format!("a {tail} {head} {capacity}\n");
-    }
-    text
-}
-
 /// Parts numbers by one blank.
 fn parted(numbers: impl Iterator<Item = u32>) -> String {
     numbers.map(|number| number.to_string()).collect::<Vec<_>>().join(" ")
@@ -349,6 +339,6 @@ fn the_desk_agrees_with_solving() {
             parted(marked),
             parted(found.flow.iter().copied()),
         );
-        assert_eq!(desk(text_of(&table).as_bytes()), printed.as_bytes());
+        assert_eq!(desk(table.text().as_bytes()), printed.as_bytes());
     }
 }

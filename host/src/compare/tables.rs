@@ -48,6 +48,18 @@ impl OwnTable {
         }
     }
 
+    /// The table's text, without comments.
+    pub fn text(&self) -> String {
+        let mut text = format!("p max {} {}\nn {} s\nn {} t\n", self.n, self.arcs(), self.s, self.t);
+        for k in 0..self.arcs() {
+            text.push_str(&format!(
+                "a {} {} {}\n",
+                self.tails[k], self.heads[k], self.capacities[k]
+            ));
+        }
+        text
+    }
+
     /// How many arcs stand in all three rows.
     pub fn arcs(&self) -> usize {
         self.tails.len().min(self.heads.len()).min(self.capacities.len())

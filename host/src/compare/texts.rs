@@ -84,14 +84,9 @@ const ODD_BYTES: [u8; 14] = [b'\t', b'\r', 0, 11, 12, 127, 128, 160, 194, 255, b
 
 /// The lines of a table, its n lines in either order.
 fn drafted(random: &mut Random, table: &OwnTable) -> Draft {
-    let mut lines = vec![format!("p max {} {}", table.n, table.arcs()).into_bytes()];
-    lines.push(format!("n {} s", table.s).into_bytes());
-    lines.push(format!("n {} t", table.t).into_bytes());
+    let mut lines: Vec<Vec<u8>> = table.text().lines().map(|line| line.as_bytes().to_vec()).collect();
     if random.once_in(2) {
         lines.swap(1, 2);
-    }
-    for k in 0..table.arcs() {
-        lines.push(format!("a {} {} {}", table.tails[k], table.heads[k], table.capacities[k]).into_bytes());
     }
     Draft { lines, last_lf: true }
 }
