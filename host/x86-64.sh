@@ -6,13 +6,14 @@ tools=$kit/on/$(uname -m)/toolchain
 on_x86_64=("$tools/lib/ld-linux-x86-64.so.2" --library-path "$tools/lib")
 [ ! -x "$tools/bin/qemu-x86_64" ] || on_x86_64=("$tools/bin/qemu-x86_64" "${on_x86_64[@]}")
 
-# link_x86_64 PROGRAM SOURCE.c LIBRARY.a: compiles a C program and links it with a static library of Rattle's and the kit's C library.
+# link_x86_64 PROGRAM SOURCE.c LIBRARY.a..: compiles a C program and links it with static libraries of Rattle's and the kit's C library.
 link_x86_64() {
-    local program=$1 source=$2 library=$3 lib=$tools/lib
+    local program=$1 source=$2 lib=$tools/lib
+    shift 2
     "$tools/bin/clang" --target=x86_64-unknown-linux-gnu -O2 -fPIE -Wall -Wextra -Werror -Iinclude \
         -isystem "$(gcc -print-file-name=include)" -isystem "/usr/include/$(gcc -dumpmachine)" -isystem /usr/include \
         -c "$source" -o "$program.o" &&
         "$tools/bin/ld.lld" -pie --dynamic-linker /lib64/ld-linux-x86-64.so.2 -o "$program" \
-            "$lib/Scrt1.o" "$lib/crti.o" "$lib/crtbeginS.o" "$program.o" "$library" \
+            "$lib/Scrt1.o" "$lib/crti.o" "$lib/crtbeginS.o" "$program.o" "$@" \
             "$lib/libc.so.6" "$lib/libc_nonshared.a" "$lib/libgcc.a" "$lib/crtendS.o" "$lib/crtn.o"
 }

@@ -1,8 +1,9 @@
 /* The caller: takes calls from standard input, makes them through the static library, and writes on standard output what came back
    and every lent row. All numbers are 32 bits and little-endian, marks one byte each.
 
-   A call: kind (1 solve, 2 read by place), n, s, t, the table's stamp, the answer's stamp, the place, the six rows' lengths (tails, heads,
-   capacities, flow, side, work), then the rows. Solving has no answer's stamp and no place, reading no work row: they are 0 and empty.
+   A call: kind (1 solve, 2 solve arc records, 3 read by place), n, s, t, the table's stamp, the answer's stamp, the place, the six rows' lengths
+   (tails, heads, capacities, flow, side, work), then the rows. Solving has no answer's stamp and no place, reading no work row: they are 0 and
+   empty. For arc records the first three rows have one length, and the records are made of them here.
    What is written: nine 64-bit numbers (the answer's, or the reading's five and 0), then the six rows, then 1 if nothing was written beside them. */
 #include <stdint.h>
 #include <stdlib.h>
@@ -11,9 +12,18 @@
 
 #include "jorrabide.h"
 
+enum { SOLVE = 1, SOLVE_RECORDS, READ_PLACE };
 enum { TAILS, HEADS, CAPACITIES, FLOW, SIDE, WORK, ROWS };
 enum { KIND, NODES, SOURCE, SINK, STAMP, ANSWER_STAMP, PLACE, LENGTHS, HEADER = LENGTHS + ROWS };
 enum { FENCE = 64, FENCE_BYTE = 0xA5 };
+
+/* An arc record, and the entry over a row of them, which is in no header: it is not one of the calls for C. */
+struct arc {
+    uint32_t tail, head, capacity;
+};
+struct jorrabide_answer solve_records(
+    uint32_t n, uint32_t s, uint32_t t, uint32_t stamp, const struct arc *arcs, size_t arcs_length,
+    uint32_t *flow, size_t flow_length, uint8_t *side, size_t side_length, uint32_t *work, size_t work_length);
 
 struct row {
     unsigned char *memory;
@@ -63,16 +73,35 @@ static int is_fenced(struct row row) {
     return 1;
 }
 
-/* Makes the call of solving. */
-static void call_solve(const uint32_t *call, const struct row *rows, uint64_t *result) {
-    struct jorrabide_answer answer = jorrabide_solve(
-        call[NODES], call[SOURCE], call[SINK], call[STAMP],
-        numbers(rows[TAILS]), rows[TAILS].length, numbers(rows[HEADS]), rows[HEADS].length,
-        numbers(rows[CAPACITIES]), rows[CAPACITIES].length, numbers(rows[FLOW]), rows[FLOW].length,
-        rows[SIDE].memory + FENCE, rows[SIDE].length, numbers(rows[WORK]), rows[WORK].length);
+/* An answer's nine numbers. */
+static void put_answer(struct jorrabide_answer answer, uint64_t *result) {
     const uint64_t fields[9] = {answer.refusal, answer.place, answer.stamp, answer.value, answer.scale,
                                 answer.phases, answer.saturating, answer.nonsaturating, answer.relabels};
     memcpy(result, fields, sizeof fields);
+}
+
+/* Makes the call of solving. */
+static void call_solve(const uint32_t *call, const struct row *rows, uint64_t *result) {
+    put_answer(jorrabide_solve(
+                   call[NODES], call[SOURCE], call[SINK], call[STAMP],
+                   numbers(rows[TAILS]), rows[TAILS].length, numbers(rows[HEADS]), rows[HEADS].length,
+                   numbers(rows[CAPACITIES]), rows[CAPACITIES].length, numbers(rows[FLOW]), rows[FLOW].length,
+                   rows[SIDE].memory + FENCE, rows[SIDE].length, numbers(rows[WORK]), rows[WORK].length),
+               result);
+}
+
+/* Makes the call of solving a row of arc records. */
+static void call_solve_records(const uint32_t *call, const struct row *rows, uint64_t *result) {
+    size_t length = rows[TAILS].length;
+    struct arc *arcs = malloc((length + 1) * sizeof *arcs);
+    if (arcs == NULL || rows[HEADS].length != length || rows[CAPACITIES].length != length) exit(1);
+    for (size_t k = 0; k < length; k++)
+        arcs[k] = (struct arc){numbers(rows[TAILS])[k], numbers(rows[HEADS])[k], numbers(rows[CAPACITIES])[k]};
+    put_answer(solve_records(
+                   call[NODES], call[SOURCE], call[SINK], call[STAMP], arcs, length, numbers(rows[FLOW]), rows[FLOW].length,
+                   rows[SIDE].memory + FENCE, rows[SIDE].length, numbers(rows[WORK]), rows[WORK].length),
+               result);
+    free(arcs);
 }
 
 /* Makes the call of reading by place. */
@@ -92,10 +121,9 @@ int main(void) {
         struct row rows[ROWS];
         for (int k = 0; k < ROWS; k++) rows[k] = read_row(call[LENGTHS + k], k == SIDE ? 1 : 4);
         uint64_t result[9];
-        if (call[KIND] == 1)
-            call_solve(call, rows, result);
-        else
-            call_read_place(call, rows, result);
+        if (call[KIND] == SOLVE) call_solve(call, rows, result);
+        if (call[KIND] == SOLVE_RECORDS) call_solve_records(call, rows, result);
+        if (call[KIND] == READ_PLACE) call_read_place(call, rows, result);
         write_all(result, sizeof result);
         uint32_t fenced = 1;
         for (int k = 0; k < ROWS; k++) {

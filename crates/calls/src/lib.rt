@@ -43,5 +43,17 @@ pub extern "C" fn jorrabide_read_place(
 ) -> Reading
     ensures { λ r. ⌜ r ≡ reading (tableOf n s t (now (tails .entry)) (now (heads .entry)) (now (caps .entry))) stamp answer (now (flow .entry)) (now (side .entry)) place ⌝ }
 {
-    planner::read_place(n, s, t, stamp, tails, heads, caps, answer, flow, side, place)
+    planner::read_place(
+        n,
+        s,
+        t,
+        stamp,
+        tails,
+        heads,
+        caps,
+        answer,
+        flow,
+        side,
+        place,
+    )
 }

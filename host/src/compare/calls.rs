@@ -8,6 +8,7 @@ use crate::solve::solve;
 #[derive(Clone, Copy, PartialEq, Eq, Debug)]
 pub enum Kind {
     Solve,
+    SolveRecords,
     ReadPlace,
 }
 
@@ -80,9 +81,6 @@ fn called_table(random: &mut Random) -> OwnTable {
             }
         }
     }
-    if random.once_in(12) {
-        part_rows(random, &mut table);
-    }
     table
 }
 
@@ -104,12 +102,20 @@ fn asked_place(random: &mut Random, arcs: usize) -> u32 {
     }
 }
 
-/// A random call of solving.
-fn random_solve(random: &mut Random) -> Call {
-    let table = called_table(random);
+/// A table that is called with by its rows: some of them differ in length.
+fn called_rows(random: &mut Random) -> OwnTable {
+    let mut table = called_table(random);
+    if random.once_in(12) {
+        part_rows(random, &mut table);
+    }
+    table
+}
+
+/// A random call of solving a table, by its rows or as arc records.
+fn random_solve(random: &mut Random, kind: Kind, table: OwnTable) -> Call {
     let (n, m) = (u64::from(table.n), table.arcs() as u64);
     Call {
-        kind: Kind::Solve,
+        kind,
         stamp: odd_number(random),
         answer_stamp: 0,
         place: 0,
@@ -121,8 +127,7 @@ fn random_solve(random: &mut Random) -> Call {
 }
 
 /// A random call of reading by place.
-fn random_reading(random: &mut Random) -> Call {
-    let table = called_table(random);
+fn random_reading(random: &mut Random, table: OwnTable) -> Call {
     let (n, m) = (u64::from(table.n), table.arcs() as u64);
     let stamp = odd_number(random);
     Call {
@@ -139,11 +144,20 @@ fn random_reading(random: &mut Random) -> Call {
 
 /// Call `index` of a seed.
 pub fn random_call(seed: u64, index: u64) -> Call {
-    let mut random = Random::of_case(seed, index);
-    if random.once_in(2) {
-        random_solve(&mut random)
-    } else {
-        random_reading(&mut random)
+    let random = &mut Random::of_case(seed, index);
+    match random.between(0, 4) {
+        0 | 1 => {
+            let table = called_rows(random);
+            random_solve(random, Kind::Solve, table)
+        }
+        2 => {
+            let table = called_table(random);
+            random_solve(random, Kind::SolveRecords, table)
+        }
+        _ => {
+            let table = called_rows(random);
+            random_reading(random, table)
+        }
     }
 }
 
@@ -168,7 +182,8 @@ fn put_rows(bytes: &mut Vec<u8>, call: &Call) {
 pub fn sent(call: &Call) -> Vec<u8> {
     let kind = match call.kind {
         Kind::Solve => 1,
-        Kind::ReadPlace => 2,
+        Kind::SolveRecords => 2,
+        Kind::ReadPlace => 3,
     };
     let table = &call.table;
     let mut bytes = Vec::new();
@@ -201,7 +216,7 @@ pub fn sent(call: &Call) -> Vec<u8> {
 fn made(call: &mut Call) -> [u64; 9] {
     let table = call.table.lent();
     match call.kind {
-        Kind::Solve => {
+        Kind::Solve | Kind::SolveRecords => {
             let answer = solve(&table, call.stamp, &mut call.flow, &mut call.side, &mut call.work);
             [
                 u64::from(answer.refusal),

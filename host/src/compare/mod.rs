@@ -172,9 +172,11 @@ fn called(kind: Kind, refusal: u64) -> String {
     format!("{kind:?} {refusal:2}")
 }
 
-/// What every comparison of calls must have seen: each refusal of each call, and that it was made.
+/// What every comparison of calls must have seen: each refusal of each call (arc records never have ROWS), and an answer.
 pub fn wanted_of_calls() -> Vec<String> {
     let mut wanted: Vec<String> = (0..=8).map(|number| called(Kind::Solve, number)).collect();
+    let of_records = (0..=8).filter(|number| *number != u64::from(Name::Rows.number()));
+    wanted.extend(of_records.map(|number| called(Kind::SolveRecords, number)));
     wanted.extend((0..=12).map(|number| called(Kind::ReadPlace, number)));
     wanted
 }

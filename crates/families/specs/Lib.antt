@@ -1,0 +1,2 @@
+-- What this crate's contracts cite.
+pub mod Sizes
