@@ -1,5 +1,6 @@
 //! The command line of the judge.
 
+use judge::boundaries;
 use judge::compare::texts::random_text;
 use judge::compare::{compare_calls, compare_texts, wanted_of_calls, wanted_of_texts, Comparison, Seen, ENOUGH};
 use judge::desk::desk;
@@ -11,6 +12,7 @@ use std::process::ExitCode;
 const USAGE: &str = "usage:
   judge desk <TEXT                        what the desk prints for a text
   judge stored FOLDER                     what the program of the stored runs prints, from its args and data/
+  judge boundaries FILE                   what the program of boundaries prints, for the calls that FILE names
   judge families [full]                   what the program of seeded tables prints, small or at full size
   judge family NUMBER N M                 the table of a family, from 1, as a text
   judge text SEED INDEX                   a text of the comparison
@@ -33,6 +35,13 @@ fn answer_stored(folder: &Path) -> io::Result<bool> {
         println!("{name}");
         io::stdout().write_all(&desk(&text))?;
     }
+    Ok(true)
+}
+
+/// Writes a line for each call that the file names.
+fn write_boundaries(file: &str) -> io::Result<bool> {
+    let lines = boundaries::lines(&std::fs::read_to_string(file)?);
+    print!("{}", lines.ok_or(io::Error::other("a line that names no call"))?);
     Ok(true)
 }
 
@@ -98,6 +107,7 @@ fn run(arguments: &[&str]) -> io::Result<bool> {
     match arguments {
         ["desk"] => answer_input(),
         ["stored", folder] => answer_stored(Path::new(folder)),
+        ["boundaries", file] => write_boundaries(file),
         ["families"] => write_families(false),
         ["families", "full"] => write_families(true),
         ["family", number, n, m] => write_family(number, n, m),
