@@ -38,7 +38,7 @@ pub struct Table<'a> {
     pub capacities: &'a [u32],
 }
 
-/// Solves a table. Safe for every table and every rows: the call asks for nothing.
+/// Solves a table. Safe for all tables and rows: the call asks for nothing.
 #[rustfmt::skip]
 pub fn solve(table: &Table, flow: &mut [u32], side: &mut [u8], work: &mut [u32]) -> Answer {
     let Table { n, s, t, stamp, tails, heads, capacities } = table;

@@ -1,4 +1,5 @@
 # To be sourced. What Rattle compiles is for x86-64: links C programs with it, and runs them as rt does, on any processor that the kit is for.
+command -v rt >/dev/null || { echo "rt, the command of the Rattle kit, is not in PATH" >&2; exit 1; }
 kit=${RATTLE_HOME:-$(dirname "$(dirname "$(readlink -f "$(command -v rt)")")")}
 tools=$kit/on/$(uname -m)/toolchain
 

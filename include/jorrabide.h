@@ -6,6 +6,10 @@
 #include <stddef.h>
 #include <stdint.h>
 
+#ifdef __cplusplus
+extern "C" {
+#endif
+
 /* What solving returns: a refusal's number and place and 0 elsewhere, or refusal 0 and the results. */
 struct jorrabide_answer {
     uint32_t refusal;
@@ -49,5 +53,9 @@ struct jorrabide_reading jorrabide_read_place(
     const uint32_t *flow, size_t flow_length,
     const uint8_t *side, size_t side_length,
     uint32_t place);
+
+#ifdef __cplusplus
+}
+#endif
 
 #endif

@@ -3,7 +3,7 @@
 
    A call: kind (1 solve, 2 solve arc records, 3 read by place), n, s, t, the table's stamp, the answer's stamp, the place, the six rows' lengths
    (tails, heads, capacities, flow, side, work), then the rows. Solving has no answer's stamp and no place, reading no work row: they are 0 and
-   empty. For arc records the first three rows have one length, and the records are made of them here.
+   empty. For arc records the first three rows have one length; the records are made of them here, and the rows of the records afterwards.
    What is written: nine 64-bit numbers (the answer's, or the reading's five and 0), then the six rows, then 1 if nothing was written beside them. */
 #include <stdint.h>
 #include <stdlib.h>
@@ -54,11 +54,17 @@ static void write_all(const void *from, size_t bytes) {
     }
 }
 
-/* Reads a row into memory of its own, between two fences. */
-static struct row read_row(size_t length, size_t width) {
+/* A row in memory of its own, between two fences. */
+static struct row new_row(size_t length, size_t width) {
     struct row row = {malloc(length * width + 2 * FENCE), length * width, length};
     if (row.memory == NULL) exit(1);
     memset(row.memory, FENCE_BYTE, row.bytes + 2 * FENCE);
+    return row;
+}
+
+/* Reads a row. */
+static struct row read_row(size_t length, size_t width) {
+    struct row row = new_row(length, width);
     if (!read_all(row.memory + FENCE, row.bytes)) exit(1);
     return row;
 }
@@ -93,15 +99,22 @@ static void call_solve(const uint32_t *call, const struct row *rows, uint64_t *r
 /* Makes the call of solving a row of arc records. */
 static void call_solve_records(const uint32_t *call, const struct row *rows, uint64_t *result) {
     size_t length = rows[TAILS].length;
-    struct arc *arcs = malloc((length + 1) * sizeof *arcs);
-    if (arcs == NULL || rows[HEADS].length != length || rows[CAPACITIES].length != length) exit(1);
+    if (rows[HEADS].length != length || rows[CAPACITIES].length != length) exit(1);
+    struct row row = new_row(length, sizeof(struct arc));
+    struct arc *arcs = (struct arc *)numbers(row);
     for (size_t k = 0; k < length; k++)
         arcs[k] = (struct arc){numbers(rows[TAILS])[k], numbers(rows[HEADS])[k], numbers(rows[CAPACITIES])[k]};
     put_answer(solve_records(
                    call[NODES], call[SOURCE], call[SINK], call[STAMP], arcs, length, numbers(rows[FLOW]), rows[FLOW].length,
                    rows[SIDE].memory + FENCE, rows[SIDE].length, numbers(rows[WORK]), rows[WORK].length),
                result);
-    free(arcs);
+    for (size_t k = 0; k < length; k++) {
+        numbers(rows[TAILS])[k] = arcs[k].tail;
+        numbers(rows[HEADS])[k] = arcs[k].head;
+        numbers(rows[CAPACITIES])[k] = arcs[k].capacity;
+    }
+    if (!is_fenced(row)) exit(1);
+    free(row.memory);
 }
 
 /* Makes the call of reading by place. */
@@ -120,10 +133,13 @@ int main(void) {
     while (read_all(call, sizeof call)) {
         struct row rows[ROWS];
         for (int k = 0; k < ROWS; k++) rows[k] = read_row(call[LENGTHS + k], k == SIDE ? 1 : 4);
-        uint64_t result[9];
-        if (call[KIND] == SOLVE) call_solve(call, rows, result);
-        if (call[KIND] == SOLVE_RECORDS) call_solve_records(call, rows, result);
-        if (call[KIND] == READ_PLACE) call_read_place(call, rows, result);
+        uint64_t result[9] = {0};
+        switch (call[KIND]) {
+            case SOLVE: call_solve(call, rows, result); break;
+            case SOLVE_RECORDS: call_solve_records(call, rows, result); break;
+            case READ_PLACE: call_read_place(call, rows, result); break;
+            default: return 1;
+        }
         write_all(result, sizeof result);
         uint32_t fenced = 1;
         for (int k = 0; k < ROWS; k++) {

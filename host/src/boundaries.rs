@@ -103,12 +103,25 @@ fn answered(call: &str) -> Option<String> {
     Some(answer)
 }
 
-/// The lines that must be printed for the calls that these lines name.
+/// What the lines must bring: solved, and each refusal of solving; read, and each refusal of reading that its calls can have.
+fn wanted() -> Vec<String> {
+    let arcs_and_room = [
+        "rows 4097 4097 4097, lent 4097 2 8203: refusal=3 ",
+        "lent 4 4 24: refusal=5 ",
+        "lent 4097 2 8201: refusal=0 ",
+    ];
+    let mut wanted: Vec<String> = arcs_and_room.map(str::to_string).to_vec();
+    wanted.extend([0, 1, 2, 4, 6, 7, 8].map(|refusal| format!("lent 4 4 25: refusal={refusal} ")));
+    wanted.extend([0, 4, 5, 7, 9, 10, 11, 12].map(|refusal| format!("marks 1 1 1 0: refusal={refusal} ")));
+    wanted
+}
+
+/// The lines that must be printed for the calls that these lines name; none if a line names no call, or if a wanted one never came.
 pub fn lines(printed: &str) -> Option<String> {
     let mut lines = String::new();
     for line in printed.lines() {
         let (call, _) = line.split_once(": refusal=")?;
         lines.push_str(&format!("{call}: {}\n", answered(call)?));
     }
-    Some(lines)
+    wanted().iter().all(|part| lines.contains(part)).then_some(lines)
 }

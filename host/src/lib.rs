@@ -1,5 +1,5 @@
-//! The judge: an independent program, written from documents 01 and 02 and our readings of them, not from the proved code. It answers what the
-//! proved programs answer, and compares them with itself on random and damaged inputs.
+//! The judge: an independent program, written from document 01 and our readings of it, not from the proved code. It answers what the proved
+//! programs answer, and compares them with itself on random and damaged inputs. Requests of document 02 are added as they land.
 
 pub mod boundaries;
 pub mod compare;

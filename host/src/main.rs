@@ -41,7 +41,12 @@ fn answer_stored(folder: &Path) -> io::Result<bool> {
 /// Writes a line for each call that the file names.
 fn write_boundaries(file: &str) -> io::Result<bool> {
     let lines = boundaries::lines(&std::fs::read_to_string(file)?);
-    print!("{}", lines.ok_or(io::Error::other("a line that names no call"))?);
+    print!(
+        "{}",
+        lines.ok_or(io::Error::other(
+            "a line that names no call, or a boundary that never came"
+        ))?
+    );
     Ok(true)
 }
 
@@ -55,7 +60,11 @@ fn write_families(full: bool) -> io::Result<bool> {
 fn write_family(which: &str, n: &str, m: &str) -> io::Result<bool> {
     let family = FAMILIES.get((number(which)? as usize).wrapping_sub(1));
     let family = family.ok_or(io::Error::other("families are numbered from 1 to 9"))?;
-    let table = family.table(number(n)? as u32, number(m)? as u32);
+    let (n, m) = (number(n)?, number(m)?);
+    if !(8..=512).contains(&n) || m > 4096 {
+        return Err(io::Error::other("n is 8 to 512, and m at most 4096"));
+    }
+    let table = family.table(n as u32, m as u32);
     print!("{}", table.text());
     Ok(true)
 }

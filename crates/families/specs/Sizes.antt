@@ -13,7 +13,7 @@ pub record Sizes (n m : ℕ) : Type 0 where
   pub nodes : Nodes n
   pub arcs : m ≤ 4096
 
--- The rows have m places.
+-- The rows have at least m places.
 pub record Room (m : ℕ) (tails heads caps : List ℕ) : Type 0 where
   pub tails-long : m ≤ length tails
   pub heads-long : m ≤ length heads

@@ -3,7 +3,8 @@ use Prim.Native.Nat.{ℕ, _≤_}
 use mathlib.Core.Path.{ap}
 use mathlib.Core.Bool.{true}
 use native.Mathlib.Omega.{arith}
-use Rattle.rows.specs.Sum.{sum, nodes}
+use Rattle.rows.specs.Sum.{sum}
+use Rattle.rows.proofs.Functions.{nodes}
 use Rattle.rows.specs.Row.{Node}
 use Rattle.rows.proofs.Sums.{by-equal, sum-mono, sum-by-key, nodes-mono}
 use Rattle.network.specs.Network.{Network, inflow}

@@ -6,7 +6,8 @@ use native.Mathlib.Omega.{arith}
 use borrow.Author.Tests.{ltb-true, ltb-false, eq-eqb, ne-eqb}
 use lib.Dec.{eqb, ltb}
 use Rattle.rows.specs.Sum.{sum, only}
-use Rattle.rows.specs.Row.{put, Node}
+use Rattle.rows.specs.Row.{Node}
+use Rattle.rows.proofs.Functions.{put}
 use Rattle.rows.proofs.Sums.{by-test, by-equal, only-true, only-false, only-plus, put-same, put-other, sum-change}
 use Rattle.network.specs.Network.{Network, Inner, inflow, outflow, start, finish, room, isInner}
 use Rattle.network.proofs.Notions.{Sound, Preflow, finish-node, ends-differ, inner-test, source-test, sink-test, room-ext}

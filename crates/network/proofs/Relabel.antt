@@ -2,7 +2,7 @@
 use Prim.Native.Nat.{ℕ, _+_, _*_, _≤_, _<_}
 use mathlib.Core.Path.{refl, ap, sym, _∙_}
 use native.Mathlib.Omega.{arith}
-use Rattle.rows.specs.Row.{put}
+use Rattle.rows.proofs.Functions.{put}
 use Rattle.rows.proofs.Sums.{by-equal, put-same, put-other}
 use Rattle.network.specs.Network.{Network, start, finish}
 use Rattle.network.proofs.Notions.{Sound, NoMinimums}

@@ -6,7 +6,8 @@ use mathlib.Core.Path.{_≡_}
 use mathlib.Core.Bool.{Bool, true, false, not, cond}
 use lib.Dec.{eqb}
 use Rattle.rows.specs.Sum.{only}
-use Rattle.rows.specs.Row.{put, Node}
+use Rattle.rows.specs.Row.{Node}
+use Rattle.rows.proofs.Functions.{put}
 use Rattle.network.specs.Network.{Network, isInner, inflow, outflow, start, finish, room}
 use Rattle.network.proofs.Notions.{ResidualFrom}
 

@@ -6,7 +6,8 @@ use native.Mathlib.Numerals.{add-one}
 use native.Mathlib.Omega.{arith}
 use lib.ListN.{length, getD, set, drop, replicate, length-set, length-append, length-replicate, getD-replicate, List·getD-append, drop-of-length-le}
 use lib.Seq.{getD-at, getD-set-same, getD-set-other, ext-getD, drop-cons, set-at}
-use Rattle.rows.specs.Row.{Node, put, atPlace, atNode, byPlace, byNode}
+use Rattle.rows.specs.Row.{Node, atPlace, atNode, byPlace, byNode}
+use Rattle.rows.proofs.Functions.{put}
 use Rattle.rows.specs.Sum.{total}
 use Rattle.rows.proofs.Sums.{by-equal, put-same, put-other, sum-zero, sum-term, sum-change}
 

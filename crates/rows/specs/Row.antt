@@ -1,9 +1,7 @@
--- Rows of numbers: read by place and by node, made of a function, and functions changed at one number.
+-- Rows of numbers: read by place and by node, parts of them, and rows made of a function.
 use Prim.Native.Nat.{ℕ, zero, suc, _-_, _≤_}
-use mathlib.Core.Bool.{cond}
 use mathlib.Core.List.{List, [], _∷_, _++_}
-use lib.Dec.{eqb}
-use lib.ListN.{getD, take, drop}
+use lib.ListN.{getD, take, drop, replicate}
 
 -- `i` is one of the nodes 1 to n.
 abbrev pub Node : ℕ → ℕ → Type 0
@@ -22,6 +20,10 @@ atNode row (suc k) = getD row k 0
 abbrev pub part : ℕ → ℕ → List ℕ → List ℕ
 part a e row = take (e - a) (drop a row)
 
+-- The first numbers of a row, those before `end`, are 0 and the rest is unchanged.
+abbrev pub cleared : ℕ → List ℕ → List ℕ
+cleared end row = replicate end 0 ++ drop end row
+
 -- The row f 0, .., f (m - 1).
 unfoldable pub byPlace : (ℕ → ℕ) → ℕ → List ℕ
 byPlace f zero = []
@@ -30,7 +32,3 @@ byPlace f (suc k) = byPlace f k ++ (f k ∷ [])
 -- The row by node f 1, .., f n.
 abbrev pub byNode : (ℕ → ℕ) → ℕ → List ℕ
 byNode f n = byPlace (λ k. f (suc k)) n
-
--- `f`, but `v` at `i`.
-abbrev pub put : (ℕ → ℕ) → ℕ → ℕ → ℕ → ℕ
-put f i v j = cond (eqb j i) v (f j)

@@ -5,7 +5,8 @@ use mathlib.Core.Bool.{Bool, true, false, cond}
 use mathlib.Core.List.{List, List·Memᴰ}
 use native.Mathlib.Omega.{arith}
 use lib.ListN.{length, set, length-set}
-use Rattle.rows.specs.Row.{put, atNode, atPlace}
+use Rattle.rows.specs.Row.{atNode, atPlace}
+use Rattle.rows.proofs.Functions.{put}
 use Rattle.rows.specs.Row.{Node as NodeOf}
 use Rattle.rows.proofs.Sums.{put-other}
 use Rattle.rows.proofs.Rows.{place-set, node-set, put-self}

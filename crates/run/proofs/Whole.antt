@@ -4,7 +4,8 @@ use mathlib.Core.Path.{_≡_, ap, subst, _∙_}
 use mathlib.Core.List.{List, [], _∷_}
 use native.Mathlib.Omega.{arith}
 use lib.ListN.{length}
-use Rattle.rows.specs.Sum.{sum, nodes, total}
+use Rattle.rows.specs.Sum.{sum, total}
+use Rattle.rows.proofs.Functions.{nodes}
 use Rattle.rows.specs.Row.{atNode, atPlace}
 use Rattle.rows.proofs.Sums.{sum-bound, sum-term}
 use Rattle.network.proofs.Notions.{Preflow}

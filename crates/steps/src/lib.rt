@@ -298,7 +298,7 @@ pub fn push(
 }
 
 // One more push, saturating or not.
-pub fn pushed(counts: Counts, full: bool) -> Counts
+pub fn count_push(counts: Counts, full: bool) -> Counts
     requires { ⌜ steps counts < 2 ^ 63 ⌝ }
     ensures { λ r. ⌜ r ≡ onePush counts full ⌝ }
 {
@@ -312,7 +312,7 @@ pub fn pushed(counts: Counts, full: bool) -> Counts
 }
 
 // One more relabel.
-pub fn relabelled(counts: Counts) -> Counts
+pub fn count_relabel(counts: Counts) -> Counts
     requires { ⌜ steps counts < 2 ^ 63 ⌝ }
     ensures { λ r. ⌜ r ≡ oneRelabel counts ⌝ }
 {

@@ -20,6 +20,7 @@ fn answer_argument(i: usize) {
     answer_stored(&name[..length]);
 }
 
+// Answers the stored texts, one after the other.
 fn main() {
     for i in 1..os::arg_count() {
         answer_argument(i);

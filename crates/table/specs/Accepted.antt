@@ -6,7 +6,7 @@ use lib.ListN.{length}
 use Rattle.rows.specs.Row.{Node, atPlace}
 use Rattle.table.specs.Table.{Table}
 
--- The ends of arcs among n nodes: a head for each tail, all of them nodes, and no arc is a loop.
+-- The ends of arcs among n nodes: at most 512 nodes and 4,096 arcs, a head for each tail, all of them nodes, and no arc is a loop.
 pub record ArcEnds (n : ℕ) (tails heads : List ℕ) : Type 0 where
   pub few-nodes : n ≤ 512
   pub few-arcs : length tails ≤ 4096

@@ -6,7 +6,7 @@ use mathlib.Core.Bool.{Bool}
 use mathlib.Core.List.{List, _++_, append-nil}
 use lib.ListN.{length, set, drop, replicate, drop-of-length-le}
 use lib.Seq.{drop-drop}
-use Rattle.rows.specs.Row.{byNode}
+use Rattle.rows.specs.Row.{byNode, cleared}
 use Rattle.table.specs.Table.{Table, tableOf, arcs}
 use Rattle.run.specs.Residual.{list}
 use Rattle.run.specs.Start.{State, startFlow, startLabelAt, start}
@@ -19,7 +19,7 @@ use Rattle.run.specs.declared.Choice.{Choice}
 use Rattle.run.specs.declared.Counts.{Counts}
 use Rattle.run.specs.declared.Found.the-variants.{Place, Missing}
 use Rattle.steps.specs.Rows.{Pushed}
-use Rattle.lists.specs.Work.{startsAt, workEnd, listsPart, ElseSame, workNeed, cleared}
+use Rattle.lists.specs.Work.{startsAt, workEnd, listsPart, ElseSame, workNeed}
 
 -- States whose rows are equal are equal.
 pub same-state : {flow flow′ excess excess′ label label′ : List ℕ} → flow ≡ flow′ → excess ≡ excess′ → label ≡ label′

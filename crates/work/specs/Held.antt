@@ -9,7 +9,8 @@ use Rattle.run.specs.Phase.{Run, deltaAfter, after, run}
 use Rattle.run.specs.Rows.{stateOf, runOf}
 use Rattle.run.specs.declared.Counts.{Counts}
 use Rattle.run.specs.declared.Outcome.{Outcome}
-use Rattle.lists.specs.Work.{excessPart, labelsPart, workNeed, cleared}
+use Rattle.rows.specs.Row.{cleared}
+use Rattle.lists.specs.Work.{excessPart, labelsPart, workNeed}
 
 -- The state of n nodes that a flow row and a work row hold.
 abbrev pub stateIn : (n : ℕ) (flow work : List ℕ) → State

@@ -156,12 +156,12 @@ fn step(
     match search_list(n, tails, heads, caps, flow, work, i) {
         Found::Place(k) => {
             let full = push_from(n, s, t, tails, heads, caps, flow, work, delta, i, k);
-            steps::pushed(counts, full)
+            steps::count_push(counts, full)
         }
         Found::Missing => {
             let label = label_from_list(n, tails, heads, caps, flow, work, i);
             set_label(n, work, i, label);
-            steps::relabelled(counts)
+            steps::count_relabel(counts)
         }
     }
 }

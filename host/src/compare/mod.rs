@@ -70,7 +70,7 @@ fn printed(command: &[String], input: &[u8]) -> Vec<u8> {
     output.stdout
 }
 
-/// The first line of an answer up to its equals sign or, of a refusal, its name.
+/// How an answer ended: `solved` or, of a refusal, its name.
 fn outcome(answer: &[u8]) -> String {
     let line = answer.split(|byte| *byte == b'\n').next().unwrap_or_default();
     let line = String::from_utf8_lossy(line);

@@ -39,8 +39,8 @@ push-from-requires c κs =
       (start .pre .1 .0, start .pre .1 .1, subst (FoundIn (length (start .args .caps .now))) (place .given .1) (searched .search-list .ensures .1)),
     )
 
-pushed-requires : tie.Need-pushed-requires
-pushed-requires c κs = search needs
+count-push-requires : tie.Need-count-push-requires
+count-push-requires c κs = search needs
 
 enum-told : tie.Need-enum-told
 enum-told c = search needs
@@ -57,8 +57,8 @@ set-label-requires c κs =
     let start = begun searched in
     (omega (arith, start .pre .0 .1 .room), start .pre .1 .1)
 
-relabelled-requires : tie.Need-relabelled-requires
-relabelled-requires c κs = search needs
+count-relabel-requires : tie.Need-count-relabel-requires
+count-relabel-requires c κs = search needs
 
 same-length : tie.Need-same-length
 same-length c = search needs
@@ -74,7 +74,7 @@ returns c =
     let start = begun searched in (
       step-push (table searched) (start .args .delta) (state searched) (start .args .counts) (start .args .i) _ _ (place .k .given .0 .0) (pushed .push-from .result)
           (sym (place .k .given .1) ∙ searched .search-list .ensures .0 (start .args .s) (start .args .t) (start .pre .0 .1))
-          (pushed .push-from .ensures .0) (pushed .push-from .ensures .1 .0) (c .pushed .ensures),
+          (pushed .push-from .ensures .0) (pushed .push-from .ensures .1 .0) (c .count-push .ensures),
       pushed .push-from .ensures .1 .1,
     )
 
@@ -94,7 +94,7 @@ returns-2 c =
       step-relabel (table searched) (start .args .delta) (state searched) (start .args .counts) (start .args .i) _ _ (labelled .label-from-list .result)
           (sym (told .enum-told .given .1) ∙ searched .search-list .ensures .0 (start .args .s) (start .args .t) (start .pre .0 .1))
           (labelled .label-from-list .ensures (start .args .s) (start .args .t) (start .pre .0 .1))
-          (same-state refl (stored .set-label .ensures .0) (stored .set-label .ensures .1 .0)) (c .relabelled .ensures),
+          (same-state refl (stored .set-label .ensures .0) (stored .set-label .ensures .1 .0)) (c .count-relabel .ensures),
       stored .set-label .ensures .1 .1,
     )
 
@@ -105,11 +105,11 @@ step-spec =
     search-list-requires
     enum-known-k
     push-from-requires
-    pushed-requires
+    count-push-requires
     enum-told
     label-from-list-requires
     set-label-requires
-    relabelled-requires
+    count-relabel-requires
     same-length
     same-length-2
     returns

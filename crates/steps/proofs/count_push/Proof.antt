@@ -1,8 +1,8 @@
--- `pushed` meets its contract: by the flag.
+-- `count_push` meets its contract: by the flag.
 use native.Mathlib.Nat.{add-zero}
 use borrow.Author.Needs.{needs}
-use Rattle.steps.proofs.pushed.Statement.{statement}
-use Rattle.steps.proofs.pushed.Tie as tie
+use Rattle.steps.proofs.count_push.Statement.{statement}
+use Rattle.steps.proofs.count_push.Tie as tie
 
 add-next : tie.Need-add-next
 add-next c = search needs
@@ -16,5 +16,5 @@ returns c = rw (c .before .if1 .taken, add-zero)
 returns-2 : tie.Need-returns-2
 returns-2 c = rw (c .before .if1 .left, add-zero)
 
-pub pushed-spec : {M : Type 1} → statement M
-pushed-spec = tie.close (tie.spec add-next add-next-2 returns returns-2)
+pub count-push-spec : {M : Type 1} → statement M
+count-push-spec = tie.close (tie.spec add-next add-next-2 returns returns-2)
