@@ -6,13 +6,13 @@ ghost use Prim.Native.Nat.{_+_, _^_, _≤_, _<_};
 
 // ---- lines
 
-// This prints one byte.
+// Prints one byte.
 fn print_byte(byte: u8) {
     let one = [byte];
     io::write_all(1, &one);
 }
 
-// This prints the number at a place, if there is one, and gives the place after it.
+// Prints the number at a place, if there is one, and gives the place after it.
 fn print_number(numbers: &[u64], at: usize) -> usize {
     if at < numbers.len() {
         io::print_decimal(1, numbers[at]);
@@ -21,7 +21,7 @@ fn print_number(numbers: &[u64], at: usize) -> usize {
     at
 }
 
-// This prints one byte of a form, or the next number where that byte is #, and gives the place of the number after it.
+// Prints one byte of a form, or the next number where that byte is #, and gives the place of the number after it.
 fn print_part(byte: u8, numbers: &[u64], at: usize) -> usize {
     if byte == b'#' {
         return print_number(numbers, at);
@@ -30,7 +30,7 @@ fn print_part(byte: u8, numbers: &[u64], at: usize) -> usize {
     at
 }
 
-// This prints a form, with the numbers in turn for each #.
+// Prints a form, with the numbers in turn for each #.
 fn print_form(form: &[u8], numbers: &[u64]) {
     let mut at = 0;
     let mut k = 0;
@@ -48,13 +48,13 @@ struct Tally {
     checksum: u32,
 }
 
-// This gives the checksum after one more number.
+// The checksum after one more number.
 fn next_checksum(checksum: u32, number: u32) -> u32 {
     let sum = (checksum as u64) * 31 + (number as u64) + 1;
     (sum % 4294967296) as u32
 }
 
-// This gives the tally after one more number.
+// The tally after one more number.
 fn next_tally(tally: Tally, number: u32) -> Tally
     requires { ⌜ tally .changed + 1 < 2 ^ 64 ⌝ }
     ensures { λ r. ⌜ r .changed ≤ tally .changed + 1 ⌝ }
@@ -72,7 +72,7 @@ fn next_tally(tally: Tally, number: u32) -> Tally
     }
 }
 
-// This gives the tally of a row of numbers.
+// The tally of a row of numbers.
 fn tally_numbers(row: &[u32]) -> Tally {
     let mut tally = Tally {
         changed: 0,
@@ -86,12 +86,12 @@ fn tally_numbers(row: &[u32]) -> Tally {
     tally
 }
 
-// This widens a mark to 32 bits.
+// Widens a mark to 32 bits.
 fn wide(mark: u8) -> u32 {
     mark as u32
 }
 
-// This gives the tally of a row of marks.
+// The tally of a row of marks.
 fn tally_marks(row: &[u8]) -> Tally {
     let mut tally = Tally {
         changed: 0,
@@ -107,7 +107,7 @@ fn tally_marks(row: &[u8]) -> Tally {
 
 // ---- solving
 
-// This prints the fields of an answer.
+// Prints the fields of an answer.
 fn print_answer(a: Answer) {
     print_form(
         b"refusal=# place=# stamp=# value=# scale=# phases=# counts=# # #",
@@ -125,7 +125,7 @@ fn print_answer(a: Answer) {
     );
 }
 
-// This prints what the lent rows hold after a call, and ends the line.
+// Prints what the lent rows hold after a call, and ends the line.
 fn print_rows(flow: &[u32], side: &[u8], work: &[u32]) {
     let f = tally_numbers(flow);
     let g = tally_marks(side);
@@ -143,7 +143,7 @@ fn print_rows(flow: &[u32], side: &[u8], work: &[u32]) {
     );
 }
 
-// This solves a table with stamp 5 in the lent rows, and prints the rest of its line.
+// Solves a table with stamp 5 in the lent rows, and prints the rest of its line.
 fn try_rows(
     n: u32,
     s: u32,
@@ -159,7 +159,7 @@ fn try_rows(
     print_rows(flow, side, work);
 }
 
-// This gives a length that is at most that of the row to be cut.
+// A length that is at most that of the row to be cut.
 fn within(length: usize, row: usize) -> usize
     ensures { λ r. ⌜ r ≤ row ⌝ }
 {
@@ -169,7 +169,7 @@ fn within(length: usize, row: usize) -> usize
     row
 }
 
-// This solves the base table with these ends, this arc at place 2 and rows of these lengths.
+// Solves the base table with these ends, this arc at place 2 and rows of these lengths.
 fn try_solve(
     n: u32,
     s: u32,
@@ -226,7 +226,7 @@ fn try_solve(
     );
 }
 
-// This solves a table of two nodes and arcs 1>2 of 1,000,000.
+// Solves a table of two nodes and arcs 1>2 of 1,000,000.
 fn try_many(s: u32, a: usize, b: usize, c: usize, w: usize) {
     let tails = [1u32; 4097];
     let heads = [2u32; 4097];
@@ -255,32 +255,32 @@ fn try_many(s: u32, a: usize, b: usize, c: usize, w: usize) {
     );
 }
 
-// This solves the base table with this number of nodes and these ends.
+// Solves the base table with this number of nodes and these ends.
 fn try_ends(n: u32, s: u32, t: u32) {
     try_solve(n, s, t, 2, 3, 4, 4, 4, 4, 4, 4, 25);
 }
 
-// This solves the base table with this arc at place 2.
+// Solves the base table with this arc at place 2.
 fn try_arc(tail: u32, head: u32, capacity: u32) {
     try_solve(4, 1, 4, tail, head, capacity, 4, 4, 4, 4, 4, 25);
 }
 
-// This solves the base table with arc rows of these lengths.
+// Solves the base table with arc rows of these lengths.
 fn try_arc_rows(tails: usize, heads: usize, caps: usize) {
     try_solve(4, 1, 4, 2, 3, 4, tails, heads, caps, 4, 4, 25);
 }
 
-// This solves the base table in lent rows of these lengths.
+// Solves the base table in lent rows of these lengths.
 fn try_room(flow: usize, side: usize, work: usize) {
     try_solve(4, 1, 4, 2, 3, 4, 4, 4, 4, flow, side, work);
 }
 
-// This solves a table of n nodes and no arcs in lent rows of these lengths.
+// Solves a table of n nodes and no arcs in lent rows of these lengths.
 fn try_bare(n: u32, side: usize, work: usize) {
     try_solve(n, 1, n, 2, 3, 4, 0, 0, 0, 0, side, work);
 }
 
-// This solves a table of m arcs 1>2 in a work row of this length.
+// Solves a table of m arcs 1>2 in a work row of this length.
 fn try_arcs(m: usize, work: usize) {
     try_many(1, m, m, m, work);
 }
@@ -394,7 +394,7 @@ fn solve_order() {
 
 // ---- reading by place
 
-// This prints the fields of a reading, and ends the line.
+// Prints the fields of a reading, and ends the line.
 fn print_reading(r: Reading) {
     print_form(
         b"refusal=# place=# flow=# capacity=# crossing=#\n",
@@ -408,7 +408,7 @@ fn print_reading(r: Reading) {
     );
 }
 
-// This reads an answer to the base table, with this source, this tail at place 2 and lent rows of these lengths.
+// Reads an answer to the base table, with this source, this tail at place 2 and lent rows of these lengths.
 fn try_reading(
     stamp: u32,
     answer: u32,
@@ -460,17 +460,17 @@ fn try_reading(
     ));
 }
 
-// This reads the answer of the base table with these stamps of the table and of the answer.
+// Reads the answer of the base table with these stamps of the table and of the answer.
 fn try_stamps(stamp: u32, answer: u32, place: u32) {
     try_reading(stamp, answer, place, 1, 2, 4, 4, 1, 1, 1, 0);
 }
 
-// This reads the answer of the base table with this source, this tail and rows of these lengths.
+// Reads the answer of the base table with this source, this tail and rows of these lengths.
 fn try_lent(stamp: u32, place: u32, s: u32, tail: u32, flow: usize, side: usize) {
     try_reading(stamp, 9, place, s, tail, flow, side, 1, 1, 1, 0);
 }
 
-// This reads an answer with these marks.
+// Reads an answer with these marks.
 fn try_marks(place: u32, first: u8, second: u8, third: u8, fourth: u8) {
     try_reading(9, 9, place, 1, 2, 4, 4, first, second, third, fourth);
 }
