@@ -169,7 +169,7 @@ fn within(length: usize, row: usize) -> usize
     row
 }
 
-// Solves the base table with these ends, this arc at place 2 and rows of these lengths.
+// Solves the base table with these ends, this arc at place 2, and tails, heads, capacities, flow, side and work of these lengths.
 fn try_solve(
     n: u32,
     s: u32,
@@ -226,7 +226,7 @@ fn try_solve(
     );
 }
 
-// Solves a table of two nodes and arcs 1>2 of 1,000,000.
+// Solves a table of two nodes and arcs 1>2 of 1,000,000, with tails, heads, capacities and work of these lengths.
 fn try_many(s: u32, a: usize, b: usize, c: usize, w: usize) {
     let tails = [1u32; 4097];
     let heads = [2u32; 4097];
@@ -378,15 +378,15 @@ fn solve_capacities() {
 
 // In each of these calls two refusals hold.
 fn solve_order() {
-    // NODES and ROWS, ROWS and ARCS, ROWS and ENDS, ARCS and ENDS
+    // Here hold NODES and ROWS, then ROWS and ARCS, then ROWS and ENDS, then ARCS and ENDS.
     try_solve(1, 1, 4, 2, 3, 4, 3, 4, 4, 4, 4, 25);
     try_many(1, 4097, 4096, 4097, 8203);
     try_solve(4, 5, 4, 2, 3, 4, 4, 3, 4, 4, 4, 25);
     try_many(3, 4097, 4097, 4097, 8203);
-    // ENDS and ROOM, ROOM and NODE
+    // Here hold ENDS and ROOM, then ROOM and NODE.
     try_solve(4, 5, 4, 2, 3, 4, 4, 4, 4, 4, 4, 24);
     try_solve(4, 1, 4, 5, 3, 4, 4, 4, 4, 4, 4, 24);
-    // NODE and LOOP, LOOP and CAPACITY, CAPACITY at place 2 and NODE at place 3
+    // Here hold NODE and LOOP, then LOOP and CAPACITY, then CAPACITY at place 2 and NODE at place 3.
     try_arc(5, 5, 4);
     try_arc(3, 3, 1000001);
     try_solve(3, 1, 3, 2, 3, 1000001, 4, 4, 4, 4, 4, 25);
@@ -513,16 +513,17 @@ fn read_marks() {
 
 // In each of these readings two refusals hold.
 fn read_order() {
-    // ENDS and ROOM, ROOM and LOOP, LOOP and STALE
+    // Here hold ENDS and ROOM, then ROOM and LOOP, then LOOP and STALE.
     try_lent(9, 0, 5, 2, 3, 4);
     try_lent(9, 0, 1, 3, 3, 4);
     try_lent(10, 0, 1, 3, 4, 4);
-    // STALE, UNORDERED and AHEAD, each with PLACE
+    // Here hold STALE, then UNORDERED, then AHEAD, each with PLACE.
     try_stamps(10, 9, 4);
     try_stamps(2147483657, 9, 4);
     try_stamps(8, 9, 4);
 }
 
+// Makes every call in turn.
 fn main() {
     solve_nodes();
     solve_arc_rows();
