@@ -7,7 +7,7 @@ use Rattle.rows.specs.Sum.{only}
 use Rattle.rows.specs.Row.{Node}
 use Rattle.rows.proofs.Sums.{sum-ext}
 use Rattle.network.specs.Network.{Network, inflow, outflow, start, finish}
-use Rattle.network.proofs.Notions.{Sound, start-node, finish-node, room-ext}
+use Rattle.network.proofs.Notions.{Sound, start-node, finish-node, residual-over-ext}
 use Rattle.network.proofs.Steps.{State}
 use Rattle.network.proofs.Facts.{Facts}
 
@@ -53,7 +53,7 @@ facts-agree N sound Δ S U same facts =
             arith,
             same .label (start N k b) (start-node N sound k b l),
             same .label (finish N k b) (finish-node N sound k b l),
-            facts .valid k b l (omega (arith, room-ext N (S .flow) (U .flow) k b (same .flow k l))),
+            facts .valid k b l (omega (arith, residual-over-ext N (S .flow) (U .flow) k b (same .flow k l))),
           );
       ends =
           record {

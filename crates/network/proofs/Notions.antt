@@ -5,7 +5,7 @@ use mathlib.Core.Bool.{Bool, true, false, not, _&&_}
 use borrow.Author.Tests.{eq-eqb, ne-eqb}
 use lib.Dec.{eqb}
 use Rattle.rows.specs.Row.{Node}
-use Rattle.network.specs.Network.{Network, Inner, inflow, outflow, start, finish, room, isInner}
+use Rattle.network.specs.Network.{Network, Inner, inflow, outflow, start, finish, residualOver, isInner}
 
 -- Source and sink are different nodes, every arc goes from a node to a node, and none is a loop.
 pub record Sound (N : Network) : Type 0 where
@@ -34,12 +34,12 @@ pub record ResidualFrom (N : Network) (flow : ℕ → ℕ) (i : ℕ) : Type 0 wh
   pub way : Bool
   pub below : place < N .m
   pub from : start N place way ≡ i
-  pub left : 0 < room N flow place way
+  pub left : 0 < residualOver N flow place way
 
 -- No residual arc leaves X.
 abbrev pub Closed : Network → (ℕ → ℕ) → (ℕ → Bool) → Type 0
 Closed N flow X =
-    (k : ℕ) (b : Bool) → k < N .m → 0 < room N flow k b → X (start N k b) ≡ true → X (finish N k b) ≡ true
+    (k : ℕ) (b : Bool) → k < N .m → 0 < residualOver N flow k b → X (start N k b) ≡ true → X (finish N k b) ≡ true
 
 -- The end that an arc is taken from is a node.
 pub start-node : (N : Network) → Sound N → (k : ℕ) (b : Bool) → k < N .m → Node (N .n) (start N k b)
@@ -74,6 +74,6 @@ sink-test N i e = last (not (eqb i (N .s))) (eqb i (N .t)) (eq-eqb i (N .t) e)
     last false y e = refl
 
 -- A residual depends on the flow at its place alone.
-pub room-ext : (N : Network) (flow other : ℕ → ℕ) (k : ℕ) (b : Bool) → flow k ≡ other k → room N flow k b ≡ room N other k b
-room-ext N flow other k true e = ap (λ x. N .cap k - x) e
-room-ext N flow other k false e = ap (λ x. x - N .low k) e
+pub residual-over-ext : (N : Network) (flow other : ℕ → ℕ) (k : ℕ) (b : Bool) → flow k ≡ other k → residualOver N flow k b ≡ residualOver N other k b
+residual-over-ext N flow other k true e = ap (λ x. N .cap k - x) e
+residual-over-ext N flow other k false e = ap (λ x. x - N .low k) e

@@ -9,8 +9,8 @@ use Rattle.rows.specs.Sum.{sum, only}
 use Rattle.rows.specs.Row.{Node}
 use Rattle.rows.proofs.Functions.{put}
 use Rattle.rows.proofs.Sums.{by-test, by-equal, only-true, only-false, only-plus, put-same, put-other, sum-change}
-use Rattle.network.specs.Network.{Network, Inner, inflow, outflow, start, finish, room, isInner}
-use Rattle.network.proofs.Notions.{Sound, Preflow, finish-node, ends-differ, inner-test, source-test, sink-test, room-ext}
+use Rattle.network.specs.Network.{Network, Inner, inflow, outflow, start, finish, residualOver, isInner}
+use Rattle.network.proofs.Notions.{Sound, Preflow, finish-node, ends-differ, inner-test, source-test, sink-test, residual-over-ext}
 use Rattle.network.proofs.Steps.{State, moved, taken, brought, push, Chosen, Eligible, amount}
 use Rattle.network.proofs.Gaps.{Valid}
 use Rattle.network.proofs.Facts.{Facts, chosen-inner}
@@ -25,7 +25,7 @@ keyed-change m key flow k w v l =
     ∙ ap (λ x. sum m (λ a. only (eqb (key a) v) (flow a)) + only (eqb (key k) v) x) (put-same flow k w k refl)
 
 -- A push of d moves d of inflow less outflow from its start to its finish, at every node v.
-push-balance : (N : Network) (flow : ℕ → ℕ) (k : ℕ) (b : Bool) (d : ℕ) → k < N .m → d ≤ room N flow k b → (v : ℕ)
+push-balance : (N : Network) (flow : ℕ → ℕ) (k : ℕ) (b : Bool) (d : ℕ) → k < N .m → d ≤ residualOver N flow k b → (v : ℕ)
     → inflow N (put flow k (moved b (flow k) d)) v + outflow N flow v + only (eqb (start N k b) v) d
     ≡ inflow N flow v + outflow N (put flow k (moved b (flow k) d)) v + only (eqb (finish N k b) v) d
 unfolding inflow outflow
@@ -50,7 +50,7 @@ push-balance N flow k false d l fits v =
     split i = ap (only (eqb i v)) (omega arith) ∙ only-plus (eqb i v) (flow k - d) d
 
 -- A push of at most the residual keeps minimum and capacity.
-moved-range : (N : Network) (flow : ℕ → ℕ) (k : ℕ) (b : Bool) (d : ℕ) → d ≤ room N flow k b → N .low k ≤ flow k → flow k ≤ N .cap k
+moved-range : (N : Network) (flow : ℕ → ℕ) (k : ℕ) (b : Bool) (d : ℕ) → d ≤ residualOver N flow k b → N .low k ≤ flow k → flow k ≤ N .cap k
     → (N .low k ≤ moved b (flow k) d) × (moved b (flow k) d ≤ N .cap k)
 moved-range N flow k true d fits low high = omega arith
 moved-range N flow k false d fits low high = omega arith
@@ -73,7 +73,7 @@ pub record Allowed (N : Network) (Δ : ℕ) (S : State) (k : ℕ) (b : Bool) (d 
   pub below : k < N .m
   pub inner : Inner N (start N k b)
   pub enough : d ≤ S .excess (start N k b)
-  pub fits : d ≤ room N (S .flow) k b
+  pub fits : d ≤ residualOver N (S .flow) k b
   pub holds : S .excess (finish N k b) + d ≤ Δ
   pub down : S .label (start N k b) ≡ S .label (finish N k b) + 1
 
@@ -195,7 +195,7 @@ module _ (N : Network) (sound : Sound N) (Δ : ℕ) (S : State) (k : ℕ) (b : B
       valid a c l
       (omega (
         arith,
-        room-ext N (push N k b d S .flow) (S .flow) a c (put-other (S .flow) k (moved b (S .flow k) d) a e),
+        residual-over-ext N (push N k b d S .flow) (S .flow) a c (put-other (S .flow) k (moved b (S .flow k) d) a e),
       )))
 
   -- A push keeps the facts.
@@ -236,7 +236,7 @@ module _ (N : Network) (sound : Sound N) (Δ : ℕ) (S : State) (facts : Facts N
       }
 
   -- A nonsaturating push moves at least half of Delta.
-  pub nonsaturating-half : amount N Δ S k b < room N (S .flow) k b → Δ ≤ 2 * amount N Δ S k b
+  pub nonsaturating-half : amount N Δ S k b < residualOver N (S .flow) k b → Δ ≤ 2 * amount N Δ S k b
   nonsaturating-half less = omega (arith, far-small, chosen .large)
 
   -- The step's push keeps the facts.

@@ -11,7 +11,7 @@ use lib.Dec.{eqb, ltb}
 use Rattle.rows.specs.Row.{atNode, atPlace}
 use Rattle.rows.specs.Row.{Node as NodeOf}
 use Rattle.rows.proofs.Sums.{by-test, both-true}
-use Rattle.network.specs.Network.{start, finish, room}
+use Rattle.network.specs.Network.{start, finish, residualOver}
 use Rattle.network.proofs.Notions.{Sound, ResidualFrom, finish-node}
 use Rattle.network.proofs.Steps.{Eligible, NewLabel}
 use Rattle.table.specs.Table.{Table, arcs, tail, head, networkOf}
@@ -86,19 +86,19 @@ module _ (t : Table) (st : State) (i : ℕ) where
       (List·Memᴰ·cases-cons member)
 
   -- A residual member with this far label.
-  pub record Reached (l : List ℕ) (x : ℕ) : Type 0 where
+  pub record AtFarEnd (l : List ℕ) (x : ℕ) : Type 0 where
     pub place : ℕ
     pub member : List·Memᴰ place l
     pub left : 0 < residual t (st .flow) i place
     pub label : x ≡ atNode (st .label) (far t i place)
 
   -- The least label after one place is the one before, or its far end's.
-  lesser-is : (k best : ℕ) (l : List ℕ) → (lesser t st i k best ≡ best) ⊎ Reached (k ∷ l) (lesser t st i k best)
+  lesser-is : (k best : ℕ) (l : List ℕ) → (lesser t st i k best ≡ best) ⊎ AtFarEnd (k ∷ l) (lesser t st i k best)
   lesser-is k best l =
-      by-cond (λ x. (x ≡ best) ⊎ Reached (k ∷ l) x) (ltb 0 (residual t (st .flow) i k)) (min best (atNode (st .label) (far t i k))) best
+      by-cond (λ x. (x ≡ best) ⊎ AtFarEnd (k ∷ l) x) (ltb 0 (residual t (st .flow) i k)) (min best (atNode (st .label) (far t i k))) best
       (λ e. taken (ltb-true 0 (residual t (st .flow) i k) e)) (λ _. inl refl)
     where
-      taken : 0 < residual t (st .flow) i k → (min best (atNode (st .label) (far t i k)) ≡ best) ⊎ Reached (k ∷ l) (min best (atNode (st .label) (far t i k)))
+      taken : 0 < residual t (st .flow) i k → (min best (atNode (st .label) (far t i k)) ≡ best) ⊎ AtFarEnd (k ∷ l) (min best (atNode (st .label) (far t i k)))
       taken some =
           by-test (ltb best (atNode (st .label) (far t i k)))
           (λ e. inl (omega (arith, ltb-true best (atNode (st .label) (far t i k)) e)))
@@ -112,20 +112,20 @@ module _ (t : Table) (st : State) (i : ℕ) where
           }))
 
   -- What a list reaches a longer one does.
-  reached-on : (k x : ℕ) (l : List ℕ) → Reached l x → Reached (k ∷ l) x
-  reached-on k x l r = record { place = r .place; member = List·Memᴰ·tail (r .member); left = r .left; label = r .label }
+  at-far-end-on : (k x : ℕ) (l : List ℕ) → AtFarEnd l x → AtFarEnd (k ∷ l) x
+  at-far-end-on k x l r = record { place = r .place; member = List·Memᴰ·tail (r .member); left = r .left; label = r .label }
 
   -- The least is the far label of a residual member, or the one that it began with.
-  least-is : (l : List ℕ) (best : ℕ) → (leastFar t st i l best ≡ best) ⊎ Reached l (leastFar t st i l best)
+  least-is : (l : List ℕ) (best : ℕ) → (leastFar t st i l best ≡ best) ⊎ AtFarEnd l (leastFar t st i l best)
   unfolding leastFar
   least-is [] best = inl refl
   least-is (k ∷ l) best =
       ⊎-elim
       (λ same.
       ⊎-elim (λ first. inl (same ∙ first))
-      (λ (r : Reached (k ∷ l) (lesser t st i k best)). inr (subst (Reached (k ∷ l)) (sym same) r))
+      (λ (r : AtFarEnd (k ∷ l) (lesser t st i k best)). inr (subst (AtFarEnd (k ∷ l)) (sym same) r))
       (lesser-is k best l))
-      (λ later. inr (reached-on k (leastFar t st i l (lesser t st i k best)) l later))
+      (λ later. inr (at-far-end-on k (leastFar t st i l (lesser t st i k best)) l later))
       (least-is l (lesser t st i k best))
 
 -- An arc that touches node i is taken from i.
@@ -179,20 +179,20 @@ module _ (t : Table) (sound : Sound (networkOf t)) (st : State) (i : ℕ) where
     same-way = start-way t sound i k b l e
 
     -- One with residual that goes down by one from i is eligible.
-    arc-eligible : 0 < room (networkOf t) (atPlace (st .flow)) k b → atNode (st .label) i ≡ atNode (st .label) (finish (networkOf t) k b) + 1
+    arc-eligible : 0 < residualOver (networkOf t) (atPlace (st .flow)) k b → atNode (st .label) i ≡ atNode (st .label) (finish (networkOf t) k b) + 1
         → eligible t st i k ≡ true
     arc-eligible some down =
         ap₂ _&&_
-        (lt-ltb 0 (residual t (st .flow) i k) (omega (arith, ap (room (networkOf t) (atPlace (st .flow)) k) same-way)))
+        (lt-ltb 0 (residual t (st .flow) i k) (omega (arith, ap (residualOver (networkOf t) (atPlace (st .flow)) k) same-way)))
         (eq-eqb (atNode (st .label) (far t i k) + 1) (atNode (st .label) i)
         (omega (arith, ap (λ w. atNode (st .label) (finish (networkOf t) k w)) same-way)))
 
     -- The least label is at most the far end's.
-    low : 0 < room (networkOf t) (atPlace (st .flow)) k b → leastFar t st i (list t i) (top t) ≤ atNode (st .label) (finish (networkOf t) k b)
+    low : 0 < residualOver (networkOf t) (atPlace (st .flow)) k b → leastFar t st i (list t i) (top t) ≤ atNode (st .label) (finish (networkOf t) k b)
     low some =
         omega (
           arith,
-          least-far t st i (list t i) (top t) k in-list (omega (arith, ap (room (networkOf t) (atPlace (st .flow)) k) same-way)),
+          least-far t st i (list t i) (top t) k in-list (omega (arith, ap (residualOver (networkOf t) (atPlace (st .flow)) k) same-way)),
           ap (λ w. atNode (st .label) (finish (networkOf t) k w)) same-way,
         )
 
@@ -210,7 +210,7 @@ module _ (t : Table) (sound : Sound (networkOf t)) (st : State) (i : ℕ) where
             high (finish (networkOf t) (out .place) (out .way)) (finish-node (networkOf t) sound (out .place) (out .way) (out .below)),
           )
 
-      answer : Reached t st i (list t i) (leastFar t st i (list t i) (top t)) → NewLabel (networkOf t) (functionsOf st) i (newLabel t st i)
+      answer : AtFarEnd t st i (list t i) (leastFar t st i (list t i) (top t)) → NewLabel (networkOf t) (functionsOf st) i (newLabel t st i)
       answer r =
           record {
             stuck =

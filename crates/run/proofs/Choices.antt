@@ -17,7 +17,7 @@ use Rattle.run.specs.declared.Choice.the-variants.{Node, Nothing}
 use Rattle.run.proofs.Networks.{functionsOf, by-cond}
 
 -- Node b is large, no large node of 1..n has a lower label, and none before it has the same.
-pub record Best (delta : ℕ) (excess label : List ℕ) (n b : ℕ) : Type 0 where
+pub record First (delta : ℕ) (excess label : List ℕ) (n b : ℕ) : Type 0 where
   pub node : NodeOf n b
   pub large : delta < 2 * atNode excess b
   pub lowest : (j : ℕ) → NodeOf n j → delta < 2 * atNode excess j → atNode label b ≤ atNode label j
@@ -30,7 +30,7 @@ NoneLarge delta excess n = (j : ℕ) → NodeOf n j → 2 * atNode excess j ≤ 
 -- What a choice among the nodes 1..n answers.
 abbrev pub Answers : ℕ → List ℕ → List ℕ → ℕ → Choice → Type 0
 Answers delta excess label n Nothing = NoneLarge delta excess n
-Answers delta excess label n (Node b) = Best delta excess label n b
+Answers delta excess label n (Node b) = First delta excess label n b
 
 module _ (delta : ℕ) (excess label : List ℕ) where
   -- One more node, which is not large.
@@ -61,7 +61,7 @@ module _ (delta : ℕ) (excess label : List ℕ) where
       by-cond (Answers delta excess label (suc i)) (ltb (atNode label (suc i)) (atNode label b)) (Node (suc i)) (Node b)
       (λ e. new (ltb-true (atNode label (suc i)) (atNode label b) e)) (λ e. old (ltb-false (atNode label (suc i)) (atNode label b) e))
     where
-      new : atNode label (suc i) < atNode label b → Best delta excess label (suc i) (suc i)
+      new : atNode label (suc i) < atNode label b → First delta excess label (suc i) (suc i)
       new less =
           record {
             node = omega arith;
@@ -72,7 +72,7 @@ module _ (delta : ℕ) (excess label : List ℕ) where
             first = λ j v also before. omega (arith, best .lowest j (omega arith) also);
           }
 
-      old : atNode label b ≤ atNode label (suc i) → Best delta excess label (suc i) b
+      old : atNode label b ≤ atNode label (suc i) → First delta excess label (suc i) b
       old more =
           record {
             node = omega (arith, best .node);
@@ -99,7 +99,7 @@ choose-answers t delta st c e = subst (Answers delta (st .excess) (st .label) (t
 -- The node that a step takes is the theory's: with 2 x excess above Delta, and of least label among such nodes.
 pub choose-chosen : (t : Table) (delta : ℕ) (st : State) (i : ℕ) → choose t delta st ≡ Node i → Chosen (networkOf t) delta (functionsOf st) i
 choose-chosen t delta st i e =
-    let best : Best delta (st .excess) (st .label) (t .nodes) i = choose-answers t delta st (Node i) e in
+    let best : First delta (st .excess) (st .label) (t .nodes) i = choose-answers t delta st (Node i) e in
     record { node = best .node; large = best .large; lowest = best .lowest }
 
 -- Where there is none the theory's phase has ended.

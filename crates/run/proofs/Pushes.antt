@@ -10,7 +10,7 @@ use Rattle.rows.proofs.Functions.{put}
 use Rattle.rows.specs.Row.{Node as NodeOf}
 use Rattle.rows.proofs.Sums.{put-other}
 use Rattle.rows.proofs.Rows.{place-set, node-set, put-self}
-use Rattle.network.specs.Network.{room, isInner}
+use Rattle.network.specs.Network.{residualOver, isInner}
 use Rattle.network.proofs.Notions.{Sound, finish-node, ends-differ}
 use Rattle.network.proofs.Steps.{taken, brought}
 use Rattle.network.proofs.Steps.{State as Functions, moved as changed, push as pushed, relabel as relabelled, amount as moves}
@@ -83,7 +83,7 @@ module _ (t : Table) (sound : Sound (networkOf t)) (st : State) (fits : Fits t s
     amount-same delta =
         ap
         (λ x.
-        min (atNode (st .excess) x) (min (room (networkOf t) (atPlace (st .flow)) k (way t i k)) (delta - atNode (st .excess) (far t i k))))
+        min (atNode (st .excess) x) (min (residualOver (networkOf t) (atPlace (st .flow)) k (way t i k)) (delta - atNode (st .excess) (far t i k))))
         (sym (member-start t i member))
 
     module _ (d : ℕ) where

@@ -4,7 +4,7 @@ use mathlib.Core.Bool.{Bool, cond, _||_}
 use mathlib.Core.List.{List, [], _∷_, _++_}
 use lib.Dec.{eqb}
 use Rattle.rows.specs.Row.{atPlace}
-use Rattle.network.specs.Network.{finish, room}
+use Rattle.network.specs.Network.{finish, residualOver}
 use Rattle.table.specs.Table.{Table, arcs, tail, head, networkOf}
 
 -- The way in which node i takes the arc at place k, away from itself: from tail to head where i is its tail.
@@ -17,7 +17,7 @@ far t i k = finish (networkOf t) k (way t i k)
 
 -- Its residual: capacity less flow from tail to head, the flow from head to tail.
 abbrev pub residual : Table → List ℕ → ℕ → ℕ → ℕ
-residual t flow i k = room (networkOf t) (atPlace flow) k (way t i k)
+residual t flow i k = residualOver (networkOf t) (atPlace flow) k (way t i k)
 
 -- Whether the arc at place k touches node i.
 abbrev pub touches : Table → ℕ → ℕ → Bool
