@@ -5,6 +5,9 @@ use judge::families::{Family, FAMILIES};
 use judge::solve::{solve, work_need, Answer};
 use std::time::Instant;
 
+/// A table that took so many seconds is not run again.
+const ENOUGH: u64 = 5;
+
 /// The lent rows of one solver, cleared.
 struct Rows {
     flow: Vec<u32>,
@@ -114,7 +117,11 @@ fn measure(family: Family, n: u32, m: u32, times: u32) {
     let (mut ours, mut theirs) = (Rows::of(&table), Rows::of(&table));
     let (mut least, mut least_proved) = (f64::INFINITY, f64::INFINITY);
     let mut steps = 0;
-    for _ in 0..times {
+    let began = Instant::now();
+    for time in 0..times {
+        if time > 0 && began.elapsed().as_secs() >= ENOUGH {
+            break;
+        }
         let (answer, took) = timed(|| solve_independent(&table, &mut theirs));
         least = least.min(took);
         steps = answer.saturating + answer.nonsaturating + answer.relabels;
