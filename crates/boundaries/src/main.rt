@@ -150,12 +150,12 @@ fn try_rows(
     t: u32,
     tails: &[u32],
     heads: &[u32],
-    caps: &[u32],
+    capacities: &[u32],
     flow: &mut [u32],
     side: &mut [u8],
     work: &mut [u32],
 ) {
-    print_answer(planner::solve(n, s, t, 5, tails, heads, caps, flow, side, work));
+    print_answer(planner::solve(n, s, t, 5, tails, heads, capacities, flow, side, work));
     print_rows(flow, side, work);
 }
 
@@ -186,7 +186,7 @@ fn try_solve(
 ) {
     let tails = [1u32, 1, tail, 3, 3];
     let heads = [2u32, 3, head, 4, 4];
-    let caps = [4u32, 2, capacity, 1, 9];
+    let capacities = [4u32, 2, capacity, 1, 9];
     let mut flow = [7u32; 5];
     let mut side = [7u8; 513];
     let mut work = [7u32; 2053];
@@ -219,7 +219,7 @@ fn try_solve(
         t,
         &tails[..a],
         &heads[..b],
-        &caps[..c],
+        &capacities[..c],
         &mut flow[..f],
         &mut side[..g],
         &mut work[..w],
@@ -230,7 +230,7 @@ fn try_solve(
 fn try_many(s: u32, a: usize, b: usize, c: usize, w: usize) {
     let tails = [1u32; 4097];
     let heads = [2u32; 4097];
-    let caps = [1000000u32; 4097];
+    let capacities = [1000000u32; 4097];
     let mut flow = [7u32; 4097];
     let mut side = [7u8; 2];
     let mut work = [7u32; 8203];
@@ -248,7 +248,7 @@ fn try_many(s: u32, a: usize, b: usize, c: usize, w: usize) {
         2,
         &tails[..a],
         &heads[..b],
-        &caps[..c],
+        &capacities[..c],
         &mut flow,
         &mut side,
         &mut work[..w],
@@ -266,8 +266,8 @@ fn try_arc(tail: u32, head: u32, capacity: u32) {
 }
 
 // Solves the base table with arc rows of these lengths.
-fn try_arc_rows(tails: usize, heads: usize, caps: usize) {
-    try_solve(4, 1, 4, 2, 3, 4, tails, heads, caps, 4, 4, 25);
+fn try_arc_rows(tails: usize, heads: usize, capacities: usize) {
+    try_solve(4, 1, 4, 2, 3, 4, tails, heads, capacities, 4, 4, 25);
 }
 
 // Solves the base table in lent rows of these lengths.
@@ -424,7 +424,7 @@ fn try_reading(
 ) {
     let tails = [1u32, 1, tail, 3];
     let heads = [2u32, 3, 3, 4];
-    let caps = [4u32, 2, 4, 1];
+    let capacities = [4u32, 2, 4, 1];
     let flows = [1u32, 0, 1, 1, 7];
     let marks = [first, second, third, fourth, 7];
     let f = within(flow, 5);
@@ -452,7 +452,7 @@ fn try_reading(
         stamp,
         &tails,
         &heads,
-        &caps,
+        &capacities,
         answer,
         &flows[..f],
         &marks[..g],

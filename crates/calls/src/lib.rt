@@ -15,15 +15,15 @@ pub extern "C" fn jorrabide_solve(
     stamp: u32,
     tails: &[u32],
     heads: &[u32],
-    caps: &[u32],
+    capacities: &[u32],
     flow: &mut [u32],
     side: &mut [u8],
     work: &mut [u32],
 ) -> Answer
-    ensures exact { λ r. ⌜ left r (now (flow .exit)) (now (side .exit)) (now (work .exit)) ≡ solving (tableOf n s t (now (tails .entry)) (now (heads .entry)) (now (caps .entry))) stamp (now (flow .entry)) (now (side .entry)) (now (work .entry)) ⌝ }
-    ensures best { λ r. ⌜ (r .refusal ≡ 0 → Meets (tableOf n s t (now (tails .entry)) (now (heads .entry)) (now (caps .entry))) (left r (now (flow .exit)) (now (side .exit)) (now (work .exit)))) ⌝ }
+    ensures exact { λ r. ⌜ left r (now (flow .exit)) (now (side .exit)) (now (work .exit)) ≡ solving (tableOf n s t (now (tails .entry)) (now (heads .entry)) (now (capacities .entry))) stamp (now (flow .entry)) (now (side .entry)) (now (work .entry)) ⌝ }
+    ensures best { λ r. ⌜ (r .refusal ≡ 0 → Meets (tableOf n s t (now (tails .entry)) (now (heads .entry)) (now (capacities .entry))) (left r (now (flow .exit)) (now (side .exit)) (now (work .exit)))) ⌝ }
 {
-    planner::solve(n, s, t, stamp, tails, heads, caps, flow, side, work)
+    planner::solve(n, s, t, stamp, tails, heads, capacities, flow, side, work)
 }
 
 // `planner::read_place`.
@@ -35,13 +35,13 @@ pub extern "C" fn jorrabide_read_place(
     stamp: u32,
     tails: &[u32],
     heads: &[u32],
-    caps: &[u32],
+    capacities: &[u32],
     answer: u32,
     flow: &[u32],
     side: &[u8],
     place: u32,
 ) -> Reading
-    ensures { λ r. ⌜ r ≡ reading (tableOf n s t (now (tails .entry)) (now (heads .entry)) (now (caps .entry))) stamp answer (now (flow .entry)) (now (side .entry)) place ⌝ }
+    ensures { λ r. ⌜ r ≡ reading (tableOf n s t (now (tails .entry)) (now (heads .entry)) (now (capacities .entry))) stamp answer (now (flow .entry)) (now (side .entry)) place ⌝ }
 {
     planner::read_place(
         n,
@@ -50,7 +50,7 @@ pub extern "C" fn jorrabide_read_place(
         stamp,
         tails,
         heads,
-        caps,
+        capacities,
         answer,
         flow,
         side,

@@ -43,7 +43,7 @@ module _ (t : Table) (ok : Passes t) where
 
   -- and at most 4,096 arcs.
   pub few-arcs : arcs t ≤ 4096
-  few-arcs = omega (arith, accepted .rows .ends .few-arcs, accepted .rows .caps-long)
+  few-arcs = omega (arith, accepted .rows .ends .few-arcs, accepted .rows .capacities-long)
 
   -- In rows as long as the desk's.
   module _ (flow side work : List ℕ) (flow-long : length flow ≡ 4096) (side-long : length side ≡ 512) (work-long : length work ≡ 10241) where

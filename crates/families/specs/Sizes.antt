@@ -14,7 +14,7 @@ pub record Sizes (n m : ℕ) : Type 0 where
   pub arcs : m ≤ 4096
 
 -- The rows have at least m places.
-pub record Room (m : ℕ) (tails heads caps : List ℕ) : Type 0 where
+pub record Room (m : ℕ) (tails heads capacities : List ℕ) : Type 0 where
   pub tails-long : m ≤ length tails
   pub heads-long : m ≤ length heads
-  pub caps-long : m ≤ length caps
+  pub capacities-long : m ≤ length capacities

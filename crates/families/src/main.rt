@@ -232,9 +232,9 @@ fn fill(
     m: usize,
     tails: &mut [u32],
     heads: &mut [u32],
-    caps: &mut [u32],
+    capacities: &mut [u32],
 )
-    requires { ⌜ Sizes n m × Room m (now tails) (now heads) (now caps) ⌝ }
+    requires { ⌜ Sizes n m × Room m (now tails) (now heads) (now capacities) ⌝ }
 {
     let mut state = 2026 + number as u32;
     for k in 0..m {
@@ -242,7 +242,7 @@ fn fill(
         let arc = arc_at(family, n, m as u32, k as u32, draws);
         tails[k] = arc.tail;
         heads[k] = arc.head;
-        caps[k] = arc.capacity;
+        capacities[k] = arc.capacity;
         state = draws.state;
     }
 }
@@ -307,8 +307,8 @@ fn print_line(name: &[u8], n: u32, answer: Answer, flow: &[u32], side: &[u8]) {
 }
 
 // Solves the table of n nodes and m arcs that begins these rows, and prints its line.
-fn solve_rows(name: &[u8], n: u32, m: usize, tails: &[u32], heads: &[u32], caps: &[u32])
-    requires { ⌜ Sizes n m × Room m (now tails) (now heads) (now caps) ⌝ }
+fn solve_rows(name: &[u8], n: u32, m: usize, tails: &[u32], heads: &[u32], capacities: &[u32])
+    requires { ⌜ Sizes n m × Room m (now tails) (now heads) (now capacities) ⌝ }
 {
     let mut flow = [0u32; 4096];
     let mut side = [0u8; 512];
@@ -320,7 +320,7 @@ fn solve_rows(name: &[u8], n: u32, m: usize, tails: &[u32], heads: &[u32], caps:
         0,
         &tails[0..m],
         &heads[0..m],
-        &caps[0..m],
+        &capacities[0..m],
         &mut flow,
         &mut side,
         &mut work,
@@ -335,9 +335,17 @@ fn show(number: u8, name: &[u8], family: Family, n: u32, m: usize)
 {
     let mut tails = [0u32; 4096];
     let mut heads = [0u32; 4096];
-    let mut caps = [0u32; 4096];
-    fill(number, family, n, m, &mut tails, &mut heads, &mut caps);
-    solve_rows(name, n, m, &tails, &heads, &caps);
+    let mut capacities = [0u32; 4096];
+    fill(
+        number,
+        family,
+        n,
+        m,
+        &mut tails,
+        &mut heads,
+        &mut capacities,
+    );
+    solve_rows(name, n, m, &tails, &heads, &capacities);
 }
 
 // All families at one size.

@@ -132,15 +132,15 @@ module _ (n m : ℕ) (work new : List ℕ) (room : workEnd n m ≤ length work) 
   after = putMid (startsAt n) (workEnd n m - startsAt n) work new
 
   -- The table's lists stand in it.
-  pub filled-in : (s t : ℕ) (tails heads caps : List ℕ) → length caps ≡ m
-      → Listed (tableOf n s t tails heads caps) (take (startsAt n + 1) new) (drop (startsAt n + 1) new) → InWork (tableOf n s t tails heads caps) after
-  filled-in s t tails heads caps as-many listed =
+  pub filled-in : (s t : ℕ) (tails heads capacities : List ℕ) → length capacities ≡ m
+      → Listed (tableOf n s t tails heads capacities) (take (startsAt n + 1) new) (drop (startsAt n + 1) new) → InWork (tableOf n s t tails heads capacities) after
+  filled-in s t tails heads capacities as-many listed =
       let first : entriesAt n - startsAt n ≡ startsAt n + 1 = omega arith in
-      let others : workEnd n (length caps) - entriesAt n ≡ m + m = omega arith in
+      let others : workEnd n (length capacities) - entriesAt n ≡ m + m = omega arith in
       record {
         room = omega (arith, put-length (startsAt n) (workEnd n m) work new (omega arith) room size);
         listed =
-            subst₂ (Listed (tableOf n s t tails heads caps))
+            subst₂ (Listed (tableOf n s t tails heads capacities))
             (sym (ap (λ (d : ℕ). take d (drop (startsAt n) after)) first ∙ put-first (startsAt n) (workEnd n m) work new (omega arith) room size (startsAt n + 1) (omega arith)))
             (sym (ap (λ (d : ℕ). take d (drop (entriesAt n) after)) others ∙ put-others (startsAt n) (workEnd n m) work new (omega arith) room size (startsAt n + 1) (m + m) (omega arith)))
             listed;

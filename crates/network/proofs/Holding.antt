@@ -11,14 +11,14 @@ use Rattle.network.specs.Network.{Network, inflow}
 use Rattle.network.proofs.Notions.{Sound, Preflow}
 
 -- All excesses of a preflow together are at most all capacities.
-pub excess-in-all : (N : Network) → Sound N → (flow excess : ℕ → ℕ) → Preflow N flow excess → nodes (N .n) excess ≤ sum (N .m) (N .cap)
+pub excess-in-all : (N : Network) → Sound N → (flow excess : ℕ → ℕ) → Preflow N flow excess → nodes (N .n) excess ≤ sum (N .m) (N .capacity)
 unfolding inflow
 excess-in-all N sound flow excess pre =
     omega (
       arith,
       nodes-mono (N .n) excess (inflow N flow) at-node,
       sum-by-key (N .n) (N .m) (λ i. true) (N .head) flow (sound .heads),
-      sum-mono (N .m) flow (N .cap) (pre .high),
+      sum-mono (N .m) flow (N .capacity) (pre .high),
     )
   where
     at-node : (i : ℕ) → Node (N .n) i → excess i ≤ inflow N flow i

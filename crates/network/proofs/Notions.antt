@@ -23,7 +23,7 @@ NoMinimums N = (k : ℕ) → k < N .m → N .low k ≡ 0
 -- A flow within minimum and capacity, whose inflow at an inner node is its outflow and the node's excess; source and sink count as 0.
 pub record Preflow (N : Network) (flow excess : ℕ → ℕ) : Type 0 where
   pub low : (k : ℕ) → k < N .m → N .low k ≤ flow k
-  pub high : (k : ℕ) → k < N .m → flow k ≤ N .cap k
+  pub high : (k : ℕ) → k < N .m → flow k ≤ N .capacity k
   pub balance : (i : ℕ) → Inner N i → inflow N flow i ≡ outflow N flow i + excess i
   pub at-source : excess (N .s) ≡ 0
   pub at-sink : excess (N .t) ≡ 0
@@ -75,5 +75,5 @@ sink-test N i e = last (not (eqb i (N .s))) (eqb i (N .t)) (eq-eqb i (N .t) e)
 
 -- A residual depends on the flow at its place alone.
 pub residual-over-ext : (N : Network) (flow other : ℕ → ℕ) (k : ℕ) (b : Bool) → flow k ≡ other k → residualOver N flow k b ≡ residualOver N other k b
-residual-over-ext N flow other k true e = ap (λ x. N .cap k - x) e
+residual-over-ext N flow other k true e = ap (λ x. N .capacity k - x) e
 residual-over-ext N flow other k false e = ap (λ x. x - N .low k) e

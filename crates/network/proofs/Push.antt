@@ -50,8 +50,8 @@ push-balance N flow k false d l fits v =
     split i = ap (only (eqb i v)) (omega arith) ∙ only-plus (eqb i v) (flow k - d) d
 
 -- A push of at most the residual keeps minimum and capacity.
-moved-range : (N : Network) (flow : ℕ → ℕ) (k : ℕ) (b : Bool) (d : ℕ) → d ≤ residualOver N flow k b → N .low k ≤ flow k → flow k ≤ N .cap k
-    → (N .low k ≤ moved b (flow k) d) × (moved b (flow k) d ≤ N .cap k)
+moved-range : (N : Network) (flow : ℕ → ℕ) (k : ℕ) (b : Bool) (d : ℕ) → d ≤ residualOver N flow k b → N .low k ≤ flow k → flow k ≤ N .capacity k
+    → (N .low k ≤ moved b (flow k) d) × (moved b (flow k) d ≤ N .capacity k)
 moved-range N flow k true d fits low high = omega arith
 moved-range N flow k false d fits low high = omega arith
 
@@ -172,7 +172,7 @@ module _ (N : Network) (sound : Sound N) (Δ : ℕ) (S : State) (k : ℕ) (b : B
         at-sink = push-outer (N .t) (sink-test N (N .t) refl) (pre .at-sink);
       }
     where
-      range : (a : ℕ) → a < N .m → (N .low a ≤ push N k b d S .flow a) × (push N k b d S .flow a ≤ N .cap a)
+      range : (a : ℕ) → a < N .m → (N .low a ≤ push N k b d S .flow a) × (push N k b d S .flow a ≤ N .capacity a)
       range a l =
           by-equal a k
           (λ e.
@@ -181,7 +181,7 @@ module _ (N : Network) (sound : Sound N) (Δ : ℕ) (S : State) (k : ℕ) (b : B
             put-same (S .flow) k (moved b (S .flow k) d) a e,
             moved-range N (S .flow) k b d (ok .fits) (pre .low k (ok .below)) (pre .high k (ok .below)),
             ap (N .low) e,
-            ap (N .cap) e,
+            ap (N .capacity) e,
           ))
           (λ e. omega (arith, put-other (S .flow) k (moved b (S .flow k) d) a e, pre .low a l, pre .high a l))
 

@@ -19,7 +19,7 @@ pub record State : Type 0 where
 
 -- The flow at the start: every arc leaving the source is filled, all others are 0.
 abbrev pub first-flow : Network → ℕ → ℕ
-first-flow N k = only (eqb (N .tail k) (N .s)) (N .cap k)
+first-flow N k = only (eqb (N .tail k) (N .s)) (N .capacity k)
 
 -- Labels at the start of nodes other than the source: the sink has 0, others 1.
 abbrev pub first-label-off-source : Network → ℕ → ℕ

@@ -97,7 +97,7 @@ module _ (t : Table) (ok : Accepted t) (d : ℕ) (l : d < phaseCount t) where
         let sound = accepted-sound t ok in
         let begin = functionsOf (start t) in
         let few : t .nodes ≤ 512 = ok .rows .ends .few-nodes in
-        let arcs-few : arcs t ≤ 4096 = omega (arith, ok .rows .ends .few-arcs, ok .rows .caps-long) in
+        let arcs-few : arcs t ≤ 4096 = omega (arith, ok .rows .ends .few-arcs, ok .rows .capacities-long) in
         let pairs : t .nodes * t .nodes ≤ 512 * 512 = mul-le-mul few few in
         let ends : t .nodes * arcs t ≤ 512 * 4096 = mul-le-mul few arcs-few in
         let phased : 4 * (t .nodes * t .nodes) * (d + 1) ≤ 4 * (512 * 512) * 33 =

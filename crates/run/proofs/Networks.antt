@@ -28,9 +28,9 @@ accepted-sound t ok =
       source = ok .source;
       sink = ok .sink;
       apart = ok .apart;
-      tails = λ k l. ok .rows .ends .tail-node k (omega (arith, ok .rows .caps-long));
-      heads = λ k l. ok .rows .ends .head-node k (omega (arith, ok .rows .caps-long));
-      loopless = λ k l. ok .rows .ends .no-loop k (omega (arith, ok .rows .caps-long));
+      tails = λ k l. ok .rows .ends .tail-node k (omega (arith, ok .rows .capacities-long));
+      heads = λ k l. ok .rows .ends .head-node k (omega (arith, ok .rows .capacities-long));
+      loopless = λ k l. ok .rows .ends .no-loop k (omega (arith, ok .rows .capacities-long));
     }
 
 -- and has no minimums.

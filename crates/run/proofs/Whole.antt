@@ -13,7 +13,7 @@ use Rattle.network.proofs.Steps.{Phases, no-steps, no-phases}
 use Rattle.network.proofs.Steps.{phase as next-phase}
 use Rattle.network.proofs.Bounds.{phases-hold, nonsaturating-in-phase, relabels-in-all, saturating-in-all}
 use Rattle.network.proofs.Holding.{excess-in-all}
-use Rattle.table.specs.Table.{Table, arcs, cap, networkOf}
+use Rattle.table.specs.Table.{Table, arcs, capacity, networkOf}
 use Rattle.table.specs.Accepted.{Accepted}
 use Rattle.run.specs.Start.{State, start}
 use Rattle.run.specs.Scale.{largest, scaleOf, phaseCount, scale}
@@ -40,9 +40,9 @@ largest-bound b (x ∷ row) each = omega (arith, each 0 (omega arith), largest-b
 
 module _ (t : Table) (ok : Accepted t) where
   -- All capacities together are at most 4,096,000,000.
-  pub capacity-in-all : sum (arcs t) (cap t) ≤ 4096000000
+  pub capacity-in-all : sum (arcs t) (capacity t) ≤ 4096000000
   capacity-in-all =
-      omega (arith, sum-bound (arcs t) 1000000 (cap t) (ok .rows .small), ok .rows .ends .few-arcs, ok .rows .caps-long)
+      omega (arith, sum-bound (arcs t) 1000000 (capacity t) (ok .rows .small), ok .rows .ends .few-arcs, ok .rows .capacities-long)
 
   -- So all excesses of a state's row together are.
   pub total-bound : (st : State) → Fits t st → Preflow (networkOf t) (functionsOf st .flow) (functionsOf st .excess) → total (st .excess) ≤ 4096000000

@@ -4,7 +4,7 @@ use mathlib.Core.Path.{_≡_}
 use mathlib.Core.List.{List}
 use Rattle.rows.specs.Row.{atPlace}
 use Rattle.network.specs.Network.{Value, leaving, Reached, Answer}
-use Rattle.table.specs.Table.{Table, arcs, cap, networkOf}
+use Rattle.table.specs.Table.{Table, arcs, capacity, networkOf}
 use Rattle.side.specs.Side.{marked}
 use Rattle.run.specs.Start.{start}
 use Rattle.run.specs.Scale.{largest}
@@ -17,7 +17,7 @@ pub record Best (t : Table) (flow side : List ℕ) (worth : ℕ) : Type 0 where
   pub answer : Answer (networkOf t) (atPlace flow) (marked side)
   pub reached : Reached (networkOf t) (atPlace flow) (marked side)
   pub net : Value (networkOf t) (atPlace flow) worth
-  pub cut : worth ≡ leaving (networkOf t) (marked side) (cap t)
+  pub cut : worth ≡ leaving (networkOf t) (marked side) (capacity t)
 
 -- D and K for a largest excess x after the start: the least power of two not below x and one more than its exponent, or both 0.
 pub record Scaled (x D K : ℕ) : Type 0 where

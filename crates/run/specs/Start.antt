@@ -6,7 +6,7 @@ use lib.Dec.{eqb}
 use Rattle.rows.specs.Row.{atPlace, byPlace, byNode}
 use Rattle.rows.specs.Sum.{only}
 use Rattle.network.specs.Network.{isInner, inflow, outflow}
-use Rattle.table.specs.Table.{Table, arcs, tail, cap, networkOf}
+use Rattle.table.specs.Table.{Table, arcs, tail, capacity, networkOf}
 
 -- What changes while the run goes on: flow by place, excess and label by node.
 pub record State : Type 0 where
@@ -16,7 +16,7 @@ pub record State : Type 0 where
 
 -- Every arc leaving the source is filled, all others are 0.
 abbrev pub startFlowAt : Table → ℕ → ℕ
-startFlowAt t k = only (eqb (tail t k) (t .source)) (cap t k)
+startFlowAt t k = only (eqb (tail t k) (t .source)) (capacity t k)
 
 -- The flow row at the start.
 unfoldable pub startFlow : Table → List ℕ

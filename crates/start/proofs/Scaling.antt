@@ -91,7 +91,7 @@ unfolding sum
 sum-past ends flow i k ne = rw add-one (rw (ne-eqb (atPlace ends k) i ne) (omega arith))
 
 -- The value of a flow row over these rows.
-pub value-is : (n s t : ℕ) (tails heads caps flow : List ℕ) → length caps ≡ length tails → length heads ≡ length tails
-    → sumAt tails flow s (length tails) - sumAt heads flow s (length heads) ≡ value (tableOf n s t tails heads caps) flow
+pub value-is : (n s t : ℕ) (tails heads capacities flow : List ℕ) → length capacities ≡ length tails → length heads ≡ length tails
+    → sumAt tails flow s (length tails) - sumAt heads flow s (length heads) ≡ value (tableOf n s t tails heads capacities) flow
 unfolding value inflow outflow
-value-is n s t tails heads caps flow e f = rw (e, f)
+value-is n s t tails heads capacities flow e f = rw (e, f)

@@ -19,7 +19,7 @@ use Rattle.network.proofs.Start.{first-outflow}
 use Rattle.network.proofs.Agree.{inflow-agree, outflow-agree}
 use Rattle.rows.proofs.Rows.{total-set}
 use Rattle.run.proofs.Networks.{inner-other}
-use Rattle.table.specs.Table.{Table, networkOf, arcs, tail, head, cap}
+use Rattle.table.specs.Table.{Table, networkOf, arcs, tail, head, capacity}
 use Rattle.run.specs.Start.{startFlowAt, startFlow, excessAt, start}
 use Rattle.run.proofs.Beginning.{start-flow-at}
 use Rattle.start.specs.Sums.{received}
@@ -42,7 +42,7 @@ module _ (t : Table) (k i : ℕ) where
       (ap (only (isInner (networkOf t) i)) (rw (ne-eqb (tail t k) (t .source) other, only-of-zero (eqb (head t k) i)) (omega arith)))
 
   -- and a filled arc brings its capacity to its head.
-  held-gain : tail t k ≡ t .source → head t k ≡ i → isInner (networkOf t) i ≡ true → held t k i + cap t k ≡ held t (k + 1) i
+  held-gain : tail t k ≡ t .source → head t k ≡ i → isInner (networkOf t) i ≡ true → held t k i + capacity t k ≡ held t (k + 1) i
   unfolding sum
   held-gain from to inside = rw add-one (rw (inside, eq-eqb (head t k) i to, eq-eqb (tail t k) (t .source) from))
 
@@ -67,7 +67,7 @@ row-set f g n j x v here others =
 module _ (t : Table) (n k : ℕ) where
   -- The row after one more filled arc,
   pub row-received : tail t k ≡ t .source → (head t k ≡ t .source → ⊥) → Node n (head t k)
-      → received (byNode (held t k) n) (t .sink) (head t k) (cap t k) ≡ byNode (held t (k + 1)) n
+      → received (byNode (held t k) n) (t .sink) (head t k) (capacity t k) ≡ byNode (held t (k + 1)) n
   row-received from not-source v =
       by-equal (head t k) (t .sink)
       (λ e.
@@ -76,7 +76,7 @@ module _ (t : Table) (n k : ℕ) where
       (λ p _. by-equal (head t k) (suc p) (λ q. held-outer t k (suc p) (sink-test (networkOf t) (suc p) (sym q ∙ e))) (λ q. held-past t k (suc p) q))))
       (λ not-sink.
       rw (ne-eqb (head t k) (t .sink) not-sink)
-      (row-set (held t k) (held t (k + 1)) n (head t k) (atNode (byNode (held t k) n) (head t k) + cap t k) v
+      (row-set (held t k) (held t (k + 1)) n (head t k) (atNode (byNode (held t k) n) (head t k) + capacity t k) v
       (rw (at-nodes (held t k) n (head t k) v) (held-gain t k (head t k) from refl (inner-other t (head t k) not-source not-sink)))
       (λ i other. held-past t k i (λ q. other (sym q)))))
 

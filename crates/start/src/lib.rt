@@ -12,15 +12,15 @@ ghost use Rattle.run.specs.Phase.{value};
 ghost use Rattle.start.specs.Sums.{received, sumAt};
 
 // The start's flow: every arc leaving s is filled, all others are 0. Later places stay.
-pub fn start_flow(tails: &[u32], caps: &[u32], flow: &mut [u32], s: u32)
-    requires { ⌜ (length (now caps) ≡ length (now tails)) × (length (now caps) ≤ length (now flow)) ⌝ }
-    ensures { λ _. ⌜ ((n t : ℕ) (heads : List ℕ) → now (flow .exit) ≡ startFlow (tableOf n s t (now (tails .entry)) heads (now (caps .entry))) ++ drop (length (now (caps .entry))) (now (flow .entry))) ⌝ }
+pub fn start_flow(tails: &[u32], capacities: &[u32], flow: &mut [u32], s: u32)
+    requires { ⌜ (length (now capacities) ≡ length (now tails)) × (length (now capacities) ≤ length (now flow)) ⌝ }
+    ensures { λ _. ⌜ ((n t : ℕ) (heads : List ℕ) → now (flow .exit) ≡ startFlow (tableOf n s t (now (tails .entry)) heads (now (capacities .entry))) ++ drop (length (now (capacities .entry))) (now (flow .entry))) ⌝ }
 {
     let mut k = 0;
-    while k < caps.len() {
+    while k < capacities.len() {
         let tail = tails[k];
         if tail == s {
-            flow[k] = caps[k];
+            flow[k] = capacities[k];
         } else {
             flow[k] = 0;
         }
@@ -30,7 +30,7 @@ pub fn start_flow(tails: &[u32], caps: &[u32], flow: &mut [u32], s: u32)
 
 // Node i's label at the start: the source has n, the sink 0, the others 1.
 fn start_label(n: u32, s: u32, t: u32, i: u32) -> u32
-    ensures { λ r. ⌜ ((tails heads caps : List ℕ) → r ≡ startLabelAt (tableOf n s t tails heads caps) i) ⌝ }
+    ensures { λ r. ⌜ ((tails heads capacities : List ℕ) → r ≡ startLabelAt (tableOf n s t tails heads capacities) i) ⌝ }
 {
     if i == s {
         return n;
@@ -44,7 +44,7 @@ fn start_label(n: u32, s: u32, t: u32, i: u32) -> u32
 // The start's labels.
 pub fn start_labels(labels: &mut [u32], s: u32, t: u32)
     requires { ⌜ length (now labels) ≤ 512 ⌝ }
-    ensures { λ _. ⌜ ((tails heads caps : List ℕ) → now (labels .exit) ≡ byNode (startLabelAt (tableOf (length (now (labels .entry))) s t tails heads caps)) (length (now (labels .entry)))) ⌝ }
+    ensures { λ _. ⌜ ((tails heads capacities : List ℕ) → now (labels .exit) ≡ byNode (startLabelAt (tableOf (length (now (labels .entry))) s t tails heads capacities)) (length (now (labels .entry)))) ⌝ }
 {
     let n = labels.len() as u32;
     let mut i: u32 = 0;
@@ -67,16 +67,23 @@ fn receive(excess: &mut [u32], t: u32, j: u32, c: u32)
 }
 
 // The start's excess: what the filled arcs bring to each node other than source and sink.
-pub fn start_excess(tails: &[u32], heads: &[u32], caps: &[u32], excess: &mut [u32], s: u32, t: u32)
-    requires { ⌜ ArcRows (length (now excess)) (now tails) (now heads) (now caps) ⌝ }
-    ensures { λ _. ⌜ now (excess .exit) ≡ start (tableOf (length (now (excess .entry))) s t (now (tails .entry)) (now (heads .entry)) (now (caps .entry))) .excess ⌝ }
+pub fn start_excess(
+    tails: &[u32],
+    heads: &[u32],
+    capacities: &[u32],
+    excess: &mut [u32],
+    s: u32,
+    t: u32,
+)
+    requires { ⌜ ArcRows (length (now excess)) (now tails) (now heads) (now capacities) ⌝ }
+    ensures { λ _. ⌜ now (excess .exit) ≡ start (tableOf (length (now (excess .entry))) s t (now (tails .entry)) (now (heads .entry)) (now (capacities .entry))) .excess ⌝ }
 {
     rows::clear(excess, excess.len());
     let mut k = 0;
-    while k < caps.len() {
+    while k < capacities.len() {
         let tail = tails[k];
         if tail == s {
-            receive(excess, t, heads[k], caps[k]);
+            receive(excess, t, heads[k], capacities[k]);
         }
         k += 1;
     }
@@ -153,7 +160,7 @@ fn sum_at(ends: &[u32], flow: &[u32], i: u32) -> u64
 pub fn value(tails: &[u32], heads: &[u32], flow: &[u32], s: u32) -> u64
     requires { ⌜ (length (now heads) ≡ length (now tails)) × (length (now tails) ≤ length (now flow)) × (length (now tails) ≤ 4096) ⌝ }
     requires { ⌜ sumAt (now heads) (now flow) s (length (now heads)) ≤ sumAt (now tails) (now flow) s (length (now tails)) ⌝ }
-    ensures { λ r. ⌜ ((n t : ℕ) (caps : List ℕ) → length caps ≡ length (now (tails .entry)) → r ≡ value (tableOf n s t (now (tails .entry)) (now (heads .entry)) caps) (now (flow .entry))) ⌝ }
+    ensures { λ r. ⌜ ((n t : ℕ) (capacities : List ℕ) → length capacities ≡ length (now (tails .entry)) → r ≡ value (tableOf n s t (now (tails .entry)) (now (heads .entry)) capacities) (now (flow .entry))) ⌝ }
 {
     sum_at(tails, flow, s) - sum_at(heads, flow, s)
 }

@@ -18,7 +18,7 @@ use Rattle.table.specs.Accepted.{ArcRows}
 use Rattle.run.specs.Residual.{far, residual}
 use Rattle.run.specs.Start.{State}
 use Rattle.run.specs.Push.{amount, along, moved, push}
-use Rattle.run.specs.Rows.{stateOf, WithinCaps}
+use Rattle.run.specs.Rows.{stateOf, WithinCapacities}
 use Rattle.rows.specs.Sum.{total}
 use Rattle.steps.specs.Rows.{Pushed}
 use Rattle.steps.proofs.Searching.{far-node}
@@ -40,11 +40,11 @@ module _ (t : Table) (excess : List ℕ) (i j d : ℕ) (held : ℕ) (left : List
 
 -- ---- a push asks nothing more than that the rows are in order and the excesses together fit 32 bits
 
-module _ (tails heads caps flow excess : List ℕ) (delta i k d : ℕ) (rows : ArcRows (length excess) tails heads caps) (within : WithinCaps caps flow)
-    (l : k < length caps) (is : d ≡ amount (tableOf (length excess) 0 0 tails heads caps) delta (stateOf flow excess []) i k) where
+module _ (tails heads capacities flow excess : List ℕ) (delta i k d : ℕ) (rows : ArcRows (length excess) tails heads capacities) (within : WithinCapacities capacities flow)
+    (l : k < length capacities) (is : d ≡ amount (tableOf (length excess) 0 0 tails heads capacities) delta (stateOf flow excess []) i k) where
   -- The table of these rows; what is pushed does not depend on source and sink.
   abbrev table : Table
-  table = tableOf (length excess) 0 0 tails heads caps
+  table = tableOf (length excess) 0 0 tails heads capacities
 
   -- What is pushed is at most the excess, and at most the residual.
   most : (d ≤ atNode excess i) × (d ≤ residual table flow i k)
@@ -65,7 +65,7 @@ module _ (tails heads caps flow excess : List ℕ) (delta i k d : ℕ) (rows : A
     -- The far end is another node,
     far-other : i ≡ j → ⊥
     far-other same =
-        let below : k < length tails = omega (arith, rows .caps-long) in
+        let below : k < length tails = omega (arith, rows .capacities-long) in
         by-equal (atPlace tails k) i
         (λ is-tail. rows .ends .no-loop k below (is-tail ∙ same ∙ e ∙ rw (eq-eqb (atPlace tails k) i is-tail)))
         (λ is-head. is-head (sym (same ∙ e ∙ rw (ne-eqb (atPlace tails k) i is-head))))

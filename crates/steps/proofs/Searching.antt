@@ -28,12 +28,12 @@ far-either P t i k at-head at-tail = go (way t i k)
     go false = at-tail
 
 -- The far end of an arc is a node.
-pub far-node : {n k : ℕ} {tails heads caps : List ℕ} (i : ℕ) → ArcRows n tails heads caps → k < length caps
-    → (j : ℕ) → j ≡ far (tableOf n 0 0 tails heads caps) i k → Node n j
-far-node {n} {k} {tails} {heads} {caps} i rows l j e =
+pub far-node : {n k : ℕ} {tails heads capacities : List ℕ} (i : ℕ) → ArcRows n tails heads capacities → k < length capacities
+    → (j : ℕ) → j ≡ far (tableOf n 0 0 tails heads capacities) i k → Node n j
+far-node {n} {k} {tails} {heads} {capacities} i rows l j e =
     subst⁻¹ (Node n) e
-    (far-either (Node n) (tableOf n 0 0 tails heads caps) i k
-    (rows .ends .head-node k (omega (arith, rows .caps-long))) (rows .ends .tail-node k (omega (arith, rows .caps-long))))
+    (far-either (Node n) (tableOf n 0 0 tails heads capacities) i k
+    (rows .ends .head-node k (omega (arith, rows .capacities-long))) (rows .ends .tail-node k (omega (arith, rows .capacities-long))))
 
 module _ (t : Table) (st : State) (i k : ℕ) where
   -- An arc with no residual is not eligible.

@@ -14,14 +14,14 @@ ghost use Rattle.run.specs.Choice.{lower, chooseTo};
 ghost use Rattle.run.specs.Push.{eligible, firstEligible, amount, along, moved};
 ghost use Rattle.run.specs.Relabel.{lesser, leastFar};
 ghost use Rattle.run.specs.Phase.{onePush, oneRelabel};
-ghost use Rattle.run.specs.Rows.{stateOf, steps, AtMost, Places, WithinCaps};
+ghost use Rattle.run.specs.Rows.{stateOf, steps, AtMost, Places, WithinCapacities};
 ghost use Rattle.rows.specs.Sum.{total};
 ghost use Rattle.steps.specs.Rows.{Chosen, FoundIn, Pushed};
 
 // The end of the arc at place k that is not i.
 fn far(tails: &[u32], heads: &[u32], i: u32, k: u32) -> u32
     requires { ⌜ (k < length (now tails)) × (k < length (now heads)) ⌝ }
-    ensures { λ r. ⌜ ((n s t : ℕ) (caps : List ℕ) → r ≡ far (tableOf n s t (now (tails .entry)) (now (heads .entry)) caps) i k) ⌝ }
+    ensures { λ r. ⌜ ((n s t : ℕ) (capacities : List ℕ) → r ≡ far (tableOf n s t (now (tails .entry)) (now (heads .entry)) capacities) i k) ⌝ }
 {
     let tail = tails[k as usize];
     if tail == i {
@@ -31,14 +31,14 @@ fn far(tails: &[u32], heads: &[u32], i: u32, k: u32) -> u32
 }
 
 // What can still go along the arc at place k away from i.
-fn residual(tails: &[u32], caps: &[u32], flow: &[u32], i: u32, k: u32) -> u32
-    requires { ⌜ (k < length (now tails)) × (k < length (now caps)) ⌝ }
-    requires { ⌜ WithinCaps (now caps) (now flow) ⌝ }
-    ensures { λ r. ⌜ ((n s t : ℕ) (heads : List ℕ) → r ≡ residual (tableOf n s t (now (tails .entry)) heads (now (caps .entry))) (now (flow .entry)) i k) ⌝ }
+fn residual(tails: &[u32], capacities: &[u32], flow: &[u32], i: u32, k: u32) -> u32
+    requires { ⌜ (k < length (now tails)) × (k < length (now capacities)) ⌝ }
+    requires { ⌜ WithinCapacities (now capacities) (now flow) ⌝ }
+    ensures { λ r. ⌜ ((n s t : ℕ) (heads : List ℕ) → r ≡ residual (tableOf n s t (now (tails .entry)) heads (now (capacities .entry))) (now (flow .entry)) i k) ⌝ }
 {
     let tail = tails[k as usize];
     if tail == i {
-        return caps[k as usize] - flow[k as usize];
+        return capacities[k as usize] - flow[k as usize];
     }
     flow[k as usize]
 }
@@ -47,18 +47,18 @@ fn residual(tails: &[u32], caps: &[u32], flow: &[u32], i: u32, k: u32) -> u32
 fn eligible(
     tails: &[u32],
     heads: &[u32],
-    caps: &[u32],
+    capacities: &[u32],
     flow: &[u32],
     labels: &[u32],
     i: u32,
     k: u32,
 ) -> bool
-    requires { ⌜ ArcRows (length (now labels)) (now tails) (now heads) (now caps) ⌝ }
-    requires { ⌜ WithinCaps (now caps) (now flow) ⌝ }
-    requires { ⌜ Node (length (now labels)) i × (k < length (now caps)) ⌝ }
-    ensures { λ r. ⌜ ((n s t : ℕ) (excess : List ℕ) → r ≡ eligible (tableOf n s t (now (tails .entry)) (now (heads .entry)) (now (caps .entry))) (stateOf (now (flow .entry)) excess (now (labels .entry))) i k) ⌝ }
+    requires { ⌜ ArcRows (length (now labels)) (now tails) (now heads) (now capacities) ⌝ }
+    requires { ⌜ WithinCapacities (now capacities) (now flow) ⌝ }
+    requires { ⌜ Node (length (now labels)) i × (k < length (now capacities)) ⌝ }
+    ensures { λ r. ⌜ ((n s t : ℕ) (excess : List ℕ) → r ≡ eligible (tableOf n s t (now (tails .entry)) (now (heads .entry)) (now (capacities .entry))) (stateOf (now (flow .entry)) excess (now (labels .entry))) i k) ⌝ }
 {
-    let left = residual(tails, caps, flow, i, k);
+    let left = residual(tails, capacities, flow, i, k);
     if left == 0 {
         return false;
     }
@@ -70,22 +70,22 @@ fn eligible(
 pub fn search(
     tails: &[u32],
     heads: &[u32],
-    caps: &[u32],
+    capacities: &[u32],
     flow: &[u32],
     labels: &[u32],
     list: &[u32],
     i: u32,
 ) -> Found
-    requires { ⌜ ArcRows (length (now labels)) (now tails) (now heads) (now caps) ⌝ }
-    requires { ⌜ WithinCaps (now caps) (now flow) ⌝ }
-    requires { ⌜ Node (length (now labels)) i × Places (length (now caps)) (now list) ⌝ }
-    ensures { λ r. ⌜ ((n s t : ℕ) (excess : List ℕ) → r ≡ firstEligible (tableOf n s t (now (tails .entry)) (now (heads .entry)) (now (caps .entry))) (stateOf (now (flow .entry)) excess (now (labels .entry))) i (now (list .entry))) ⌝ }
-    ensures { λ r. ⌜ FoundIn (length (now (caps .entry))) r ⌝ }
+    requires { ⌜ ArcRows (length (now labels)) (now tails) (now heads) (now capacities) ⌝ }
+    requires { ⌜ WithinCapacities (now capacities) (now flow) ⌝ }
+    requires { ⌜ Node (length (now labels)) i × Places (length (now capacities)) (now list) ⌝ }
+    ensures { λ r. ⌜ ((n s t : ℕ) (excess : List ℕ) → r ≡ firstEligible (tableOf n s t (now (tails .entry)) (now (heads .entry)) (now (capacities .entry))) (stateOf (now (flow .entry)) excess (now (labels .entry))) i (now (list .entry))) ⌝ }
+    ensures { λ r. ⌜ FoundIn (length (now (capacities .entry))) r ⌝ }
 {
     let mut j = 0;
     while j < list.len() {
         let k = list[j];
-        if eligible(tails, heads, caps, flow, labels, i, k) {
+        if eligible(tails, heads, capacities, flow, labels, i, k) {
             return Found::Place(k);
         }
         j += 1;
@@ -97,20 +97,20 @@ pub fn search(
 fn lesser(
     tails: &[u32],
     heads: &[u32],
-    caps: &[u32],
+    capacities: &[u32],
     flow: &[u32],
     labels: &[u32],
     i: u32,
     k: u32,
     best: u32,
 ) -> u32
-    requires { ⌜ ArcRows (length (now labels)) (now tails) (now heads) (now caps) ⌝ }
-    requires { ⌜ WithinCaps (now caps) (now flow) ⌝ }
-    requires { ⌜ k < length (now caps) ⌝ }
-    ensures { λ r. ⌜ ((n s t : ℕ) (excess : List ℕ) → r ≡ lesser (tableOf n s t (now (tails .entry)) (now (heads .entry)) (now (caps .entry))) (stateOf (now (flow .entry)) excess (now (labels .entry))) i k best) ⌝ }
+    requires { ⌜ ArcRows (length (now labels)) (now tails) (now heads) (now capacities) ⌝ }
+    requires { ⌜ WithinCapacities (now capacities) (now flow) ⌝ }
+    requires { ⌜ k < length (now capacities) ⌝ }
+    ensures { λ r. ⌜ ((n s t : ℕ) (excess : List ℕ) → r ≡ lesser (tableOf n s t (now (tails .entry)) (now (heads .entry)) (now (capacities .entry))) (stateOf (now (flow .entry)) excess (now (labels .entry))) i k best) ⌝ }
     ensures { λ r. ⌜ r ≤ best ⌝ }
 {
-    let left = residual(tails, caps, flow, i, k);
+    let left = residual(tails, capacities, flow, i, k);
     if left == 0 {
         return best;
     }
@@ -125,24 +125,24 @@ fn lesser(
 pub fn least_far(
     tails: &[u32],
     heads: &[u32],
-    caps: &[u32],
+    capacities: &[u32],
     flow: &[u32],
     labels: &[u32],
     list: &[u32],
     i: u32,
     best: u32,
 ) -> u32
-    requires { ⌜ ArcRows (length (now labels)) (now tails) (now heads) (now caps) ⌝ }
-    requires { ⌜ WithinCaps (now caps) (now flow) ⌝ }
-    requires { ⌜ Places (length (now caps)) (now list) ⌝ }
-    ensures { λ r. ⌜ ((n s t : ℕ) (excess : List ℕ) → r ≡ leastFar (tableOf n s t (now (tails .entry)) (now (heads .entry)) (now (caps .entry))) (stateOf (now (flow .entry)) excess (now (labels .entry))) i (now (list .entry)) best) ⌝ }
+    requires { ⌜ ArcRows (length (now labels)) (now tails) (now heads) (now capacities) ⌝ }
+    requires { ⌜ WithinCapacities (now capacities) (now flow) ⌝ }
+    requires { ⌜ Places (length (now capacities)) (now list) ⌝ }
+    ensures { λ r. ⌜ ((n s t : ℕ) (excess : List ℕ) → r ≡ leastFar (tableOf n s t (now (tails .entry)) (now (heads .entry)) (now (capacities .entry))) (stateOf (now (flow .entry)) excess (now (labels .entry))) i (now (list .entry)) best) ⌝ }
     ensures { λ r. ⌜ r ≤ best ⌝ }
 {
     let mut least = best;
     let mut j = 0;
     while j < list.len() {
         let k = list[j];
-        least = lesser(tails, heads, caps, flow, labels, i, k, least);
+        least = lesser(tails, heads, capacities, flow, labels, i, k, least);
         j += 1;
     }
     least
@@ -152,19 +152,19 @@ pub fn least_far(
 pub fn new_label(
     tails: &[u32],
     heads: &[u32],
-    caps: &[u32],
+    capacities: &[u32],
     flow: &[u32],
     labels: &[u32],
     list: &[u32],
     i: u32,
 ) -> u32
-    requires { ⌜ ArcRows (length (now labels)) (now tails) (now heads) (now caps) ⌝ }
-    requires { ⌜ WithinCaps (now caps) (now flow) ⌝ }
-    requires { ⌜ Places (length (now caps)) (now list) ⌝ }
-    ensures { λ r. ⌜ ((s t : ℕ) (excess : List ℕ) → r ≡ leastFar (tableOf (length (now (labels .entry))) s t (now (tails .entry)) (now (heads .entry)) (now (caps .entry))) (stateOf (now (flow .entry)) excess (now (labels .entry))) i (now (list .entry)) (2 * length (now (labels .entry))) + 1) ⌝ }
+    requires { ⌜ ArcRows (length (now labels)) (now tails) (now heads) (now capacities) ⌝ }
+    requires { ⌜ WithinCapacities (now capacities) (now flow) ⌝ }
+    requires { ⌜ Places (length (now capacities)) (now list) ⌝ }
+    ensures { λ r. ⌜ ((s t : ℕ) (excess : List ℕ) → r ≡ leastFar (tableOf (length (now (labels .entry))) s t (now (tails .entry)) (now (heads .entry)) (now (capacities .entry))) (stateOf (now (flow .entry)) excess (now (labels .entry))) i (now (list .entry)) (2 * length (now (labels .entry))) + 1) ⌝ }
 {
     let n = labels.len() as u32;
-    least_far(tails, heads, caps, flow, labels, list, i, 2 * n) + 1
+    least_far(tails, heads, capacities, flow, labels, list, i, 2 * n) + 1
 }
 
 // The choice so far, or node i where its label is less.
@@ -216,21 +216,21 @@ fn least(a: u64, b: u64) -> u64
 fn amount(
     tails: &[u32],
     heads: &[u32],
-    caps: &[u32],
+    capacities: &[u32],
     flow: &[u32],
     excess: &[u32],
     delta: u64,
     i: u32,
     k: u32,
 ) -> u32
-    requires { ⌜ ArcRows (length (now excess)) (now tails) (now heads) (now caps) ⌝ }
-    requires { ⌜ WithinCaps (now caps) (now flow) ⌝ }
-    requires { ⌜ Node (length (now excess)) i × (k < length (now caps)) ⌝ }
+    requires { ⌜ ArcRows (length (now excess)) (now tails) (now heads) (now capacities) ⌝ }
+    requires { ⌜ WithinCapacities (now capacities) (now flow) ⌝ }
+    requires { ⌜ Node (length (now excess)) i × (k < length (now capacities)) ⌝ }
     requires { ⌜ AtMost delta (now excess) ⌝ }
-    ensures { λ r. ⌜ ((n s t : ℕ) (label : List ℕ) → r ≡ amount (tableOf n s t (now (tails .entry)) (now (heads .entry)) (now (caps .entry))) delta (stateOf (now (flow .entry)) (now (excess .entry)) label) i k) ⌝ }
+    ensures { λ r. ⌜ ((n s t : ℕ) (label : List ℕ) → r ≡ amount (tableOf n s t (now (tails .entry)) (now (heads .entry)) (now (capacities .entry))) delta (stateOf (now (flow .entry)) (now (excess .entry)) label) i k) ⌝ }
 {
     let held = rows::wide(rows::at_node(excess, i));
-    let left = rows::wide(residual(tails, caps, flow, i, k));
+    let left = rows::wide(residual(tails, capacities, flow, i, k));
     let there = rows::wide(rows::at_node(excess, far(tails, heads, i, k)));
     least(held, least(left, delta - there)) as u32
 }
@@ -240,7 +240,7 @@ fn send(tails: &[u32], flow: &mut [u32], i: u32, k: u32, d: u32)
     requires { ⌜ (k < length (now tails)) × (k < length (now flow)) ⌝ }
     requires { ⌜ ((atPlace (now tails) k ≡ i) → atPlace (now flow) k + d < 2 ^ 32) ⌝ }
     requires { ⌜ ((atPlace (now tails) k ≡ i → ⊥) → d ≤ atPlace (now flow) k) ⌝ }
-    ensures { λ _. ⌜ ((n s t : ℕ) (heads caps : List ℕ) → now (flow .exit) ≡ along (tableOf n s t (now (tails .entry)) heads caps) (now (flow .entry)) i k d) ⌝ }
+    ensures { λ _. ⌜ ((n s t : ℕ) (heads capacities : List ℕ) → now (flow .exit) ≡ along (tableOf n s t (now (tails .entry)) heads capacities) (now (flow .entry)) i k d) ⌝ }
 {
     let tail = tails[k as usize];
     let before = flow[k as usize];
@@ -256,7 +256,7 @@ fn shift(excess: &mut [u32], s: u32, t: u32, i: u32, j: u32, d: u32)
     requires { ⌜ Node (length (now excess)) i × Node (length (now excess)) j ⌝ }
     requires { ⌜ (i ≡ j → ⊥) ⌝ }
     requires { ⌜ (d ≤ atNode (now excess) i) × (atNode (now excess) j + d < 2 ^ 32) ⌝ }
-    ensures { λ _. ⌜ ((n : ℕ) (tails heads caps : List ℕ) → now (excess .exit) ≡ moved (tableOf n s t tails heads caps) (now (excess .entry)) i j d) ⌝ }
+    ensures { λ _. ⌜ ((n : ℕ) (tails heads capacities : List ℕ) → now (excess .exit) ≡ moved (tableOf n s t tails heads capacities) (now (excess .entry)) i j d) ⌝ }
 {
     let held = rows::at_node(excess, i);
     rows::set_node(excess, i, held - d);
@@ -274,7 +274,7 @@ fn shift(excess: &mut [u32], s: u32, t: u32, i: u32, j: u32, d: u32)
 pub fn push(
     tails: &[u32],
     heads: &[u32],
-    caps: &[u32],
+    capacities: &[u32],
     flow: &mut [u32],
     excess: &mut [u32],
     delta: u64,
@@ -283,15 +283,15 @@ pub fn push(
     i: u32,
     k: u32,
 ) -> bool
-    requires { ⌜ ArcRows (length (now excess)) (now tails) (now heads) (now caps) ⌝ }
-    requires { ⌜ WithinCaps (now caps) (now flow) ⌝ }
-    requires { ⌜ Node (length (now excess)) i × (k < length (now caps)) ⌝ }
+    requires { ⌜ ArcRows (length (now excess)) (now tails) (now heads) (now capacities) ⌝ }
+    requires { ⌜ WithinCapacities (now capacities) (now flow) ⌝ }
+    requires { ⌜ Node (length (now excess)) i × (k < length (now capacities)) ⌝ }
     requires { ⌜ AtMost delta (now excess) × (total (now excess) < 2 ^ 32) ⌝ }
-    ensures { λ r. ⌜ ((n : ℕ) (label : List ℕ) → Pushed (tableOf n s t (now (tails .entry)) (now (heads .entry)) (now (caps .entry))) delta (stateOf (now (flow .entry)) (now (excess .entry)) label) i k (now (flow .exit)) (now (excess .exit)) r) ⌝ }
+    ensures { λ r. ⌜ ((n : ℕ) (label : List ℕ) → Pushed (tableOf n s t (now (tails .entry)) (now (heads .entry)) (now (capacities .entry))) delta (stateOf (now (flow .entry)) (now (excess .entry)) label) i k (now (flow .exit)) (now (excess .exit)) r) ⌝ }
 {
-    let left = residual(tails, caps, flow, i, k);
+    let left = residual(tails, capacities, flow, i, k);
     let j = far(tails, heads, i, k);
-    let d = amount(tails, heads, caps, flow, excess, delta, i, k);
+    let d = amount(tails, heads, capacities, flow, excess, delta, i, k);
     send(tails, flow, i, k, d);
     shift(excess, s, t, i, j, d);
     d == left

@@ -16,10 +16,10 @@ pub record ArcEnds (n : ℕ) (tails heads : List ℕ) : Type 0 where
   pub no-loop : (k : ℕ) → k < length tails → atPlace tails k ≡ atPlace heads k → ⊥
 
 -- Three rows of arcs among n nodes: their ends, and a capacity of at most 1,000,000 for each.
-pub record ArcRows (n : ℕ) (tails heads caps : List ℕ) : Type 0 where
+pub record ArcRows (n : ℕ) (tails heads capacities : List ℕ) : Type 0 where
   pub ends : ArcEnds n tails heads
-  pub caps-long : length caps ≡ length tails
-  pub small : (k : ℕ) → k < length caps → atPlace caps k ≤ 1000000
+  pub capacities-long : length capacities ≡ length tails
+  pub small : (k : ℕ) → k < length capacities → atPlace capacities k ≤ 1000000
 
 -- An accepted table: 2 to 512 nodes, source and sink two of them, and its arcs' rows within the limits.
 pub record Accepted (t : Table) : Type 0 where
@@ -27,4 +27,4 @@ pub record Accepted (t : Table) : Type 0 where
   pub source : Node (t .nodes) (t .source)
   pub sink : Node (t .nodes) (t .sink)
   pub apart : t .source ≡ t .sink → ⊥
-  pub rows : ArcRows (t .nodes) (t .tails) (t .heads) (t .caps)
+  pub rows : ArcRows (t .nodes) (t .tails) (t .heads) (t .capacities)

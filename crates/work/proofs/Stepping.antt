@@ -34,11 +34,11 @@ choice-is t delta st answer e long = e ∙ ap (chooseTo delta (st .excess) (st .
 
 -- The label that the code answers, from node i's list, is the new one.
 pub label-is : (t : Table) (st : State) (i : ℕ) (places : List ℕ) (label : ℕ) → length (st .label) ≡ t .nodes → places ≡ list t i
-    → label ≡ leastFar (tableOf (length (st .label)) (t .source) (t .sink) (t .tails) (t .heads) (t .caps)) st i places (2 * length (st .label)) + 1
+    → label ≡ leastFar (tableOf (length (st .label)) (t .source) (t .sink) (t .tails) (t .heads) (t .capacities)) st i places (2 * length (st .label)) + 1
     → label ≡ newLabel t st i
 label-is t st i places label long listed e =
     e
-    ∙ ap (λ (n : ℕ). leastFar (tableOf n (t .source) (t .sink) (t .tails) (t .heads) (t .caps)) st i places (2 * n) + 1) long
+    ∙ ap (λ (n : ℕ). leastFar (tableOf n (t .source) (t .sink) (t .tails) (t .heads) (t .capacities)) st i places (2 * n) + 1) long
     ∙ ap (λ (l : List ℕ). leastFar t st i l (top t) + 1) listed
 
 -- What a push leaves is the state after it.

@@ -17,7 +17,7 @@ ghost use Rattle.run.specs.Choice.{choose};
 ghost use Rattle.run.specs.Push.{firstEligible, saturates, push};
 ghost use Rattle.run.specs.Relabel.{newLabel};
 ghost use Rattle.run.specs.Phase.{step, phase, run};
-ghost use Rattle.run.specs.Rows.{steps, WithinCaps, InOrder};
+ghost use Rattle.run.specs.Rows.{steps, WithinCapacities, InOrder};
 ghost use Rattle.steps.specs.Rows.{FoundIn};
 ghost use Rattle.lists.specs.Work.{startsAt, excessPart, labelsPart, listsPart, InWork, workNeed};
 ghost use Rattle.work.specs.Held.{stateIn, runIn, Between, Ran};
@@ -25,7 +25,7 @@ ghost use Rattle.work.specs.Held.{stateIn, runIn, Between, Ran};
 // The choice of a step, among the nodes whose excesses and labels the work row holds.
 fn choose_node(n: u32, work: &[u32], delta: u64) -> Choice
     requires { ⌜ (n ≤ 512) × (startsAt n ≤ length (now work)) ⌝ }
-    ensures { λ r. ⌜ ((s t : ℕ) (tails heads caps flow : List ℕ) → r ≡ choose (tableOf n s t tails heads caps) delta (stateIn n flow (now (work .entry)))) ⌝ }
+    ensures { λ r. ⌜ ((s t : ℕ) (tails heads capacities flow : List ℕ) → r ≡ choose (tableOf n s t tails heads capacities) delta (stateIn n flow (now (work .entry)))) ⌝ }
 {
     let nodes = n as usize;
     let end = nodes + nodes;
@@ -37,25 +37,25 @@ fn search_list(
     n: u32,
     tails: &[u32],
     heads: &[u32],
-    caps: &[u32],
+    capacities: &[u32],
     flow: &[u32],
     work: &[u32],
     i: u32,
 ) -> Found
-    requires { ⌜ ArcRows n (now tails) (now heads) (now caps) × WithinCaps (now caps) (now flow) × Node n i ⌝ }
-    requires { ⌜ ((s t : ℕ) × InWork (tableOf n s t (now tails) (now heads) (now caps)) (now work)) ⌝ }
-    ensures { λ r. ⌜ ((s t : ℕ) → InWork (tableOf n s t (now (tails .entry)) (now (heads .entry)) (now (caps .entry))) (now (work .entry)) → r ≡ firstEligible (tableOf n s t (now (tails .entry)) (now (heads .entry)) (now (caps .entry))) (stateIn n (now (flow .entry)) (now (work .entry))) i (list (tableOf n s t (now (tails .entry)) (now (heads .entry)) (now (caps .entry))) i)) ⌝ }
-    ensures { λ r. ⌜ FoundIn (length (now (caps .entry))) r ⌝ }
+    requires { ⌜ ArcRows n (now tails) (now heads) (now capacities) × WithinCapacities (now capacities) (now flow) × Node n i ⌝ }
+    requires { ⌜ ((s t : ℕ) × InWork (tableOf n s t (now tails) (now heads) (now capacities)) (now work)) ⌝ }
+    ensures { λ r. ⌜ ((s t : ℕ) → InWork (tableOf n s t (now (tails .entry)) (now (heads .entry)) (now (capacities .entry))) (now (work .entry)) → r ≡ firstEligible (tableOf n s t (now (tails .entry)) (now (heads .entry)) (now (capacities .entry))) (stateIn n (now (flow .entry)) (now (work .entry))) i (list (tableOf n s t (now (tails .entry)) (now (heads .entry)) (now (capacities .entry))) i)) ⌝ }
+    ensures { λ r. ⌜ FoundIn (length (now (capacities .entry))) r ⌝ }
 {
     let nodes = n as usize;
     let end = nodes + nodes;
     steps::search(
         tails,
         heads,
-        caps,
+        capacities,
         flow,
         &work[nodes..end],
-        lists::node_list(work, n, caps.len(), i),
+        lists::node_list(work, n, capacities.len(), i),
         i,
     )
 }
@@ -65,24 +65,24 @@ fn label_from_list(
     n: u32,
     tails: &[u32],
     heads: &[u32],
-    caps: &[u32],
+    capacities: &[u32],
     flow: &[u32],
     work: &[u32],
     i: u32,
 ) -> u32
-    requires { ⌜ ArcRows n (now tails) (now heads) (now caps) × WithinCaps (now caps) (now flow) × Node n i ⌝ }
-    requires { ⌜ ((s t : ℕ) × InWork (tableOf n s t (now tails) (now heads) (now caps)) (now work)) ⌝ }
-    ensures { λ r. ⌜ ((s t : ℕ) → InWork (tableOf n s t (now (tails .entry)) (now (heads .entry)) (now (caps .entry))) (now (work .entry)) → r ≡ newLabel (tableOf n s t (now (tails .entry)) (now (heads .entry)) (now (caps .entry))) (stateIn n (now (flow .entry)) (now (work .entry))) i) ⌝ }
+    requires { ⌜ ArcRows n (now tails) (now heads) (now capacities) × WithinCapacities (now capacities) (now flow) × Node n i ⌝ }
+    requires { ⌜ ((s t : ℕ) × InWork (tableOf n s t (now tails) (now heads) (now capacities)) (now work)) ⌝ }
+    ensures { λ r. ⌜ ((s t : ℕ) → InWork (tableOf n s t (now (tails .entry)) (now (heads .entry)) (now (capacities .entry))) (now (work .entry)) → r ≡ newLabel (tableOf n s t (now (tails .entry)) (now (heads .entry)) (now (capacities .entry))) (stateIn n (now (flow .entry)) (now (work .entry))) i) ⌝ }
 {
     let nodes = n as usize;
     let end = nodes + nodes;
     steps::new_label(
         tails,
         heads,
-        caps,
+        capacities,
         flow,
         &work[nodes..end],
-        lists::node_list(work, n, caps.len(), i),
+        lists::node_list(work, n, capacities.len(), i),
         i,
     )
 }
@@ -94,24 +94,24 @@ fn push_from(
     t: u32,
     tails: &[u32],
     heads: &[u32],
-    caps: &[u32],
+    capacities: &[u32],
     flow: &mut [u32],
     work: &mut [u32],
     delta: u64,
     i: u32,
     k: u32,
 ) -> bool
-    requires { ⌜ ArcRows n (now tails) (now heads) (now caps) × (startsAt n ≤ length (now work)) ⌝ }
-    requires { ⌜ InOrder (tableOf n s t (now tails) (now heads) (now caps)) delta (stateIn n (now flow) (now work)) × Node n i × (k < length (now caps)) ⌝ }
-    ensures { λ r. ⌜ stateIn n (now (flow .exit)) (now (work .exit)) ≡ push (tableOf n s t (now (tails .entry)) (now (heads .entry)) (now (caps .entry))) delta (stateIn n (now (flow .entry)) (now (work .entry))) i k ⌝ }
-    ensures { λ r. ⌜ r ≡ saturates (tableOf n s t (now (tails .entry)) (now (heads .entry)) (now (caps .entry))) delta (stateIn n (now (flow .entry)) (now (work .entry))) i k ⌝ }
+    requires { ⌜ ArcRows n (now tails) (now heads) (now capacities) × (startsAt n ≤ length (now work)) ⌝ }
+    requires { ⌜ InOrder (tableOf n s t (now tails) (now heads) (now capacities)) delta (stateIn n (now flow) (now work)) × Node n i × (k < length (now capacities)) ⌝ }
+    ensures { λ r. ⌜ stateIn n (now (flow .exit)) (now (work .exit)) ≡ push (tableOf n s t (now (tails .entry)) (now (heads .entry)) (now (capacities .entry))) delta (stateIn n (now (flow .entry)) (now (work .entry))) i k ⌝ }
+    ensures { λ r. ⌜ r ≡ saturates (tableOf n s t (now (tails .entry)) (now (heads .entry)) (now (capacities .entry))) delta (stateIn n (now (flow .entry)) (now (work .entry))) i k ⌝ }
     ensures { λ r. ⌜ listsPart n (now (work .exit)) ≡ listsPart n (now (work .entry)) ⌝ }
 {
     let nodes = n as usize;
     steps::push(
         tails,
         heads,
-        caps,
+        capacities,
         flow,
         &mut work[0..nodes],
         delta,
@@ -141,25 +141,25 @@ fn step(
     t: u32,
     tails: &[u32],
     heads: &[u32],
-    caps: &[u32],
+    capacities: &[u32],
     flow: &mut [u32],
     work: &mut [u32],
     delta: u64,
     i: u32,
     counts: Counts,
 ) -> Counts
-    requires { ⌜ ArcRows n (now tails) (now heads) (now caps) × InWork (tableOf n s t (now tails) (now heads) (now caps)) (now work) ⌝ }
-    requires { ⌜ InOrder (tableOf n s t (now tails) (now heads) (now caps)) delta (stateIn n (now flow) (now work)) × Node n i × (steps counts < 2 ^ 63) ⌝ }
-    ensures { λ r. ⌜ runIn n (now (flow .exit)) (now (work .exit)) r ≡ step (tableOf n s t (now (tails .entry)) (now (heads .entry)) (now (caps .entry))) delta (runIn n (now (flow .entry)) (now (work .entry)) counts) i ⌝ }
+    requires { ⌜ ArcRows n (now tails) (now heads) (now capacities) × InWork (tableOf n s t (now tails) (now heads) (now capacities)) (now work) ⌝ }
+    requires { ⌜ InOrder (tableOf n s t (now tails) (now heads) (now capacities)) delta (stateIn n (now flow) (now work)) × Node n i × (steps counts < 2 ^ 63) ⌝ }
+    ensures { λ r. ⌜ runIn n (now (flow .exit)) (now (work .exit)) r ≡ step (tableOf n s t (now (tails .entry)) (now (heads .entry)) (now (capacities .entry))) delta (runIn n (now (flow .entry)) (now (work .entry)) counts) i ⌝ }
     ensures { λ r. ⌜ listsPart n (now (work .exit)) ≡ listsPart n (now (work .entry)) ⌝ }
 {
-    match search_list(n, tails, heads, caps, flow, work, i) {
+    match search_list(n, tails, heads, capacities, flow, work, i) {
         Found::Place(k) => {
-            let full = push_from(n, s, t, tails, heads, caps, flow, work, delta, i, k);
+            let full = push_from(n, s, t, tails, heads, capacities, flow, work, delta, i, k);
             steps::count_push(counts, full)
         }
         Found::Missing => {
-            let label = label_from_list(n, tails, heads, caps, flow, work, i);
+            let label = label_from_list(n, tails, heads, capacities, flow, work, i);
             set_label(n, work, i, label);
             steps::count_relabel(counts)
         }
@@ -173,15 +173,15 @@ fn phase(
     t: u32,
     tails: &[u32],
     heads: &[u32],
-    caps: &[u32],
+    capacities: &[u32],
     flow: &mut [u32],
     work: &mut [u32],
     delta: u64,
     counts: Counts,
 ) -> Counts
-    requires { ⌜ Accepted (tableOf n s t (now tails) (now heads) (now caps)) × InWork (tableOf n s t (now tails) (now heads) (now caps)) (now work) ⌝ }
-    requires { ⌜ Between (tableOf n s t (now tails) (now heads) (now caps)) delta (runIn n (now flow) (now work) counts) ⌝ }
-    ensures { λ r. ⌜ runIn n (now (flow .exit)) (now (work .exit)) r ≡ phase (tableOf n s t (now (tails .entry)) (now (heads .entry)) (now (caps .entry))) delta (runIn n (now (flow .entry)) (now (work .entry)) counts) ⌝ }
+    requires { ⌜ Accepted (tableOf n s t (now tails) (now heads) (now capacities)) × InWork (tableOf n s t (now tails) (now heads) (now capacities)) (now work) ⌝ }
+    requires { ⌜ Between (tableOf n s t (now tails) (now heads) (now capacities)) delta (runIn n (now flow) (now work) counts) ⌝ }
+    ensures { λ r. ⌜ runIn n (now (flow .exit)) (now (work .exit)) r ≡ phase (tableOf n s t (now (tails .entry)) (now (heads .entry)) (now (capacities .entry))) delta (runIn n (now (flow .entry)) (now (work .entry)) counts) ⌝ }
     ensures { λ r. ⌜ listsPart n (now (work .exit)) ≡ listsPart n (now (work .entry)) ⌝ }
 {
     let mut taken = counts;
@@ -189,7 +189,19 @@ fn phase(
         let Choice::Node(i) = choose_node(n, work, delta) else {
             break;
         };
-        taken = step(n, s, t, tails, heads, caps, flow, work, delta, i, taken);
+        taken = step(
+            n,
+            s,
+            t,
+            tails,
+            heads,
+            capacities,
+            flow,
+            work,
+            delta,
+            i,
+            taken,
+        );
     }
     taken
 }
@@ -201,14 +213,14 @@ fn phases(
     t: u32,
     tails: &[u32],
     heads: &[u32],
-    caps: &[u32],
+    capacities: &[u32],
     flow: &mut [u32],
     work: &mut [u32],
     count: u32,
 ) -> Counts
-    requires { ⌜ Accepted (tableOf n s t (now tails) (now heads) (now caps)) × InWork (tableOf n s t (now tails) (now heads) (now caps)) (now work) ⌝ }
-    requires { ⌜ (stateIn n (now flow) (now work) ≡ start (tableOf n s t (now tails) (now heads) (now caps))) × (count ≡ phaseCount (tableOf n s t (now tails) (now heads) (now caps))) ⌝ }
-    ensures { λ r. ⌜ runIn n (now (flow .exit)) (now (work .exit)) r ≡ run (tableOf n s t (now (tails .entry)) (now (heads .entry)) (now (caps .entry))) ⌝ }
+    requires { ⌜ Accepted (tableOf n s t (now tails) (now heads) (now capacities)) × InWork (tableOf n s t (now tails) (now heads) (now capacities)) (now work) ⌝ }
+    requires { ⌜ (stateIn n (now flow) (now work) ≡ start (tableOf n s t (now tails) (now heads) (now capacities))) × (count ≡ phaseCount (tableOf n s t (now tails) (now heads) (now capacities))) ⌝ }
+    ensures { λ r. ⌜ runIn n (now (flow .exit)) (now (work .exit)) r ≡ run (tableOf n s t (now (tails .entry)) (now (heads .entry)) (now (capacities .entry))) ⌝ }
     ensures { λ r. ⌜ listsPart n (now (work .exit)) ≡ listsPart n (now (work .entry)) ⌝ }
 {
     let mut taken = Counts {
@@ -219,7 +231,7 @@ fn phases(
     let mut done: u32 = 0;
     let mut delta = start::scale(count);
     while done < count {
-        taken = phase(n, s, t, tails, heads, caps, flow, work, delta, taken);
+        taken = phase(n, s, t, tails, heads, capacities, flow, work, delta, taken);
         delta = delta / 2;
         done += 1;
     }
@@ -233,19 +245,19 @@ fn begin(
     t: u32,
     tails: &[u32],
     heads: &[u32],
-    caps: &[u32],
+    capacities: &[u32],
     flow: &mut [u32],
     work: &mut [u32],
 )
-    requires { ⌜ ArcRows n (now tails) (now heads) (now caps) ⌝ }
-    requires { ⌜ (startsAt n ≤ length (now work)) × (length (now flow) ≡ length (now caps)) ⌝ }
-    ensures { λ _. ⌜ stateIn n (now (flow .exit)) (now (work .exit)) ≡ start (tableOf n s t (now (tails .entry)) (now (heads .entry)) (now (caps .entry))) ⌝ }
+    requires { ⌜ ArcRows n (now tails) (now heads) (now capacities) ⌝ }
+    requires { ⌜ (startsAt n ≤ length (now work)) × (length (now flow) ≡ length (now capacities)) ⌝ }
+    ensures { λ _. ⌜ stateIn n (now (flow .exit)) (now (work .exit)) ≡ start (tableOf n s t (now (tails .entry)) (now (heads .entry)) (now (capacities .entry))) ⌝ }
     ensures { λ _. ⌜ listsPart n (now (work .exit)) ≡ listsPart n (now (work .entry)) ⌝ }
 {
     let nodes = n as usize;
     let end = nodes + nodes;
-    start::start_flow(tails, caps, flow, s);
-    start::start_excess(tails, heads, caps, &mut work[0..nodes], s, t);
+    start::start_flow(tails, capacities, flow, s);
+    start::start_excess(tails, heads, capacities, &mut work[0..nodes], s, t);
     start::start_labels(&mut work[nodes..end], s, t);
 }
 
@@ -265,19 +277,19 @@ fn run_filled(
     t: u32,
     tails: &[u32],
     heads: &[u32],
-    caps: &[u32],
+    capacities: &[u32],
     flow: &mut [u32],
     work: &mut [u32],
 ) -> Outcome
-    requires { ⌜ Accepted (tableOf n s t (now tails) (now heads) (now caps)) × InWork (tableOf n s t (now tails) (now heads) (now caps)) (now work) × (length (now flow) ≡ length (now caps)) ⌝ }
-    ensures { λ r. ⌜ runIn n (now (flow .exit)) (now (work .exit)) (r .counts) ≡ run (tableOf n s t (now (tails .entry)) (now (heads .entry)) (now (caps .entry))) ⌝ }
-    ensures { λ r. ⌜ (r .phases ≡ phaseCount (tableOf n s t (now (tails .entry)) (now (heads .entry)) (now (caps .entry)))) × (r .scale ≡ scale (tableOf n s t (now (tails .entry)) (now (heads .entry)) (now (caps .entry)))) ⌝ }
+    requires { ⌜ Accepted (tableOf n s t (now tails) (now heads) (now capacities)) × InWork (tableOf n s t (now tails) (now heads) (now capacities)) (now work) × (length (now flow) ≡ length (now capacities)) ⌝ }
+    ensures { λ r. ⌜ runIn n (now (flow .exit)) (now (work .exit)) (r .counts) ≡ run (tableOf n s t (now (tails .entry)) (now (heads .entry)) (now (capacities .entry))) ⌝ }
+    ensures { λ r. ⌜ (r .phases ≡ phaseCount (tableOf n s t (now (tails .entry)) (now (heads .entry)) (now (capacities .entry)))) × (r .scale ≡ scale (tableOf n s t (now (tails .entry)) (now (heads .entry)) (now (capacities .entry)))) ⌝ }
     ensures { λ r. ⌜ listsPart n (now (work .exit)) ≡ listsPart n (now (work .entry)) ⌝ }
 {
-    begin(n, s, t, tails, heads, caps, flow, work);
+    begin(n, s, t, tails, heads, capacities, flow, work);
     let count = count_phases(n, work);
     let d = start::scale(count);
-    let taken = phases(n, s, t, tails, heads, caps, flow, work, count);
+    let taken = phases(n, s, t, tails, heads, capacities, flow, work, count);
     Outcome {
         counts: taken,
         phases: count,
@@ -300,16 +312,16 @@ pub fn run(
     t: u32,
     tails: &[u32],
     heads: &[u32],
-    caps: &[u32],
+    capacities: &[u32],
     flow: &mut [u32],
     work: &mut [u32],
 ) -> Outcome
-    requires { ⌜ Accepted (tableOf n s t (now tails) (now heads) (now caps)) ⌝ }
-    requires { ⌜ (length (now flow) ≡ length (now caps)) × (workNeed n (length (now caps)) ≤ length (now work)) ⌝ }
-    ensures { λ r. ⌜ Ran (tableOf n s t (now (tails .entry)) (now (heads .entry)) (now (caps .entry))) (now (work .entry)) r (now (flow .exit)) (now (work .exit)) ⌝ }
+    requires { ⌜ Accepted (tableOf n s t (now tails) (now heads) (now capacities)) ⌝ }
+    requires { ⌜ (length (now flow) ≡ length (now capacities)) × (workNeed n (length (now capacities)) ≤ length (now work)) ⌝ }
+    ensures { λ r. ⌜ Ran (tableOf n s t (now (tails .entry)) (now (heads .entry)) (now (capacities .entry))) (now (work .entry)) r (now (flow .exit)) (now (work .exit)) ⌝ }
 {
     lists::fill_work(n, tails, heads, work);
-    let outcome = run_filled(n, s, t, tails, heads, caps, flow, work);
-    rows::clear(work, work_need(n, caps.len()));
+    let outcome = run_filled(n, s, t, tails, heads, capacities, flow, work);
+    rows::clear(work, work_need(n, capacities.len()));
     outcome
 }

@@ -38,8 +38,8 @@ array-share-prefix-heads c = search needs
 slice-aggregate-try-rows-2 : tie.Need-slice-aggregate-try-rows-2
 slice-aggregate-try-rows-2 c = sym (length-take-le _ _ (search needs))
 
-array-share-prefix-caps : tie.Need-array-share-prefix-caps
-array-share-prefix-caps c = search needs
+array-share-prefix-capacities : tie.Need-array-share-prefix-capacities
+array-share-prefix-capacities c = search needs
 
 slice-aggregate-try-rows-3 : tie.Need-slice-aggregate-try-rows-3
 slice-aggregate-try-rows-3 c = sym (length-take-le _ _ (search needs))
@@ -77,7 +77,7 @@ try-many-spec =
     slice-aggregate-try-rows
     array-share-prefix-heads
     slice-aggregate-try-rows-2
-    array-share-prefix-caps
+    array-share-prefix-capacities
     slice-aggregate-try-rows-3
     slice-aggregate-try-rows-4
     slice-aggregate-try-rows-5

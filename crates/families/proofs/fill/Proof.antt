@@ -7,10 +7,10 @@ use Rattle.families.proofs.fill.Statement.{statement}
 use Rattle.families.proofs.fill.Tie as tie
 
 abbrev Inv-loop : tie.InvT-loop
-Inv-loop number family n m tails₀ heads₀ caps₀ state₀ k₀ tails heads caps state k = (length tails ≡ length tails₀) × (length heads ≡ length heads₀) × (length caps ≡ length caps₀)
+Inv-loop number family n m tails₀ heads₀ capacities₀ state₀ k₀ tails heads capacities state k = (length tails ≡ length tails₀) × (length heads ≡ length heads₀) × (length capacities ≡ length capacities₀)
 
 abbrev μ-loop : tie.MeasureT-loop
-μ-loop number family n m tails₀ heads₀ caps₀ state₀ k₀ tails heads caps state k = m - k
+μ-loop number family n m tails₀ heads₀ capacities₀ state₀ k₀ tails heads capacities state k = m - k
 
 add-state : tie.Need-add-state Inv-loop μ-loop
 add-state c = search needs
@@ -42,11 +42,11 @@ mul-heads c = search needs
 slice-write-heads : tie.Need-slice-write-heads Inv-loop μ-loop
 slice-write-heads c = search needs
 
-mul-caps : tie.Need-mul-caps Inv-loop μ-loop
-mul-caps c = search needs
+mul-capacities : tie.Need-mul-capacities Inv-loop μ-loop
+mul-capacities c = search needs
 
-slice-write-caps : tie.Need-slice-write-caps Inv-loop μ-loop
-slice-write-caps c = search needs
+slice-write-capacities : tie.Need-slice-write-capacities Inv-loop μ-loop
+slice-write-capacities c = search needs
 
 add-k : tie.Need-add-k Inv-loop μ-loop
 add-k c = search needs
@@ -85,8 +85,8 @@ fill-spec =
     slice-write-tails
     mul-heads
     slice-write-heads
-    mul-caps
-    slice-write-caps
+    mul-capacities
+    slice-write-capacities
     add-k
     loop-less
     loop-again

@@ -17,14 +17,14 @@ use Rattle.start.proofs.start_excess.Statement.{statement}
 use Rattle.start.proofs.start_excess.Tie as tie
 
 abbrev Inv-loop : tie.InvT-loop
-Inv-loop tails heads caps excess₀ s t k₀ excess k =
-    (k ≤ length caps)
-    × (excess ≡ byNode (held (tableOf (length excess₀) s t tails heads caps) k) (length excess₀))
+Inv-loop tails heads capacities excess₀ s t k₀ excess k =
+    (k ≤ length capacities)
+    × (excess ≡ byNode (held (tableOf (length excess₀) s t tails heads capacities) k) (length excess₀))
     × (length excess ≡ length excess₀)
     × (total excess ≤ 1000000 * k)
 
 abbrev μ-loop : tie.MeasureT-loop
-μ-loop tails heads caps excess₀ s t k₀ excess k = length caps - k
+μ-loop tails heads capacities excess₀ s t k₀ excess k = length capacities - k
 
 clear-requires : tie.Need-clear-requires Inv-loop μ-loop
 clear-requires c κs = search needs
@@ -38,7 +38,7 @@ loop-holds c =
     let same : length (cleared .clear .last .0) ≡ n = cleared .clear .kept .0 in (
       search needs,
       zeros
-          ∙ rw (← same) (row-first (tableOf (length (cleared .clear .last .0)) (given .s) (given .t) (given .tails .now) (given .heads .now) (given .caps .now)) (length (cleared .clear .last .0))),
+          ∙ rw (← same) (row-first (tableOf (length (cleared .clear .last .0)) (given .s) (given .t) (given .tails .now) (given .heads .now) (given .capacities .now)) (length (cleared .clear .last .0))),
       refl,
       omega (arith, ap total zeros, total-zeros n),
     )
@@ -67,7 +67,7 @@ receive-requires c κs =
     let start = at .before .before .before .before .before .before .before .before .before in
     let k = at .loop .k in
     let kept = at .before .before .before .clear .kept .0 in
-    let node = start .pre .ends .head-node k (omega (arith, start .pre .caps-long)) in
+    let node = start .pre .ends .head-node k (omega (arith, start .pre .capacities-long)) in
     let j = atPlace (start .args .heads .now) k in
     let held-there = sum-term (length (at .loop .excess)) (atPlace (at .loop .excess)) (j - 1) (omega (arith, at .loop .inv .2)) in
     let bounded = start .pre .small k (omega arith) in
@@ -87,17 +87,17 @@ loop-again c =
     let k = at .loop .k in
     let kept = at .before .before .before .clear .kept .0 in
     let more = c .before .before .loop-test .taken in
-    let node = start .pre .ends .head-node k (omega (arith, start .pre .caps-long)) in
+    let node = start .pre .ends .head-node k (omega (arith, start .pre .capacities-long)) in
     let n = length (at .before .before .before .clear .last .0) in
-    let T = tableOf n (given .s) (given .t) (given .tails .now) (given .heads .now) (given .caps .now) in
+    let T = tableOf n (given .s) (given .t) (given .tails .now) (given .heads .now) (given .capacities .now) in
     let j = atPlace (given .heads .now) k in
-    let x = atPlace (given .caps .now) k in
+    let x = atPlace (given .capacities .now) k in
     ⊎-elim
     (λ w.
     let gained = total-received (at .loop .excess) (given .t) j x (omega (arith, at .loop .inv .2)) in (
       omega arith,
       w .7 ∙ w .4 .ensures ∙ ap (λ (row : List ℕ). received row (given .t) j x) (at .loop .inv .1)
-          ∙ row-received T n k (w .0 .taken) (λ q. start .pre .ends .no-loop k (omega (arith, start .pre .caps-long)) (w .0 .taken ∙ sym q)) (omega (arith, at .loop .inv .2)),
+          ∙ row-received T n k (w .0 .taken) (λ q. start .pre .ends .no-loop k (omega (arith, start .pre .capacities-long)) (w .0 .taken ∙ sym q)) (omega (arith, at .loop .inv .2)),
       ap length (w .7) ∙ w .4 .kept .0 ∙ at .loop .inv .2,
       omega (arith, ap total (w .7 ∙ w .4 .ensures), start .pre .small k more),
     ))
@@ -113,7 +113,7 @@ returns c =
     let at = c .before in
     let start = at .before .before .before .before .before .before .before .before .before in
     let kept = at .before .before .before .clear .kept .0 in
-    let all : at .loop .k ≡ length (start .args .caps .now) = omega arith in
+    let all : at .loop .k ≡ length (start .args .capacities .now) = omega arith in
     at .loop .inv .1 ∙ rw (all, kept) (row-last _)
 
 pub start-excess-spec : {M : Type 1} → statement M

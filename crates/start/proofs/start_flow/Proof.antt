@@ -15,11 +15,11 @@ use Rattle.start.proofs.start_flow.Statement.{statement}
 use Rattle.start.proofs.start_flow.Tie as tie
 
 abbrev Inv-loop : tie.InvT-loop
-Inv-loop tails caps flow₀ s k₀ flow k =
-    (k ≤ length caps) × (flow ≡ byPlace (startFlowAt (tableOf 0 s 0 tails [] caps)) k ++ drop k flow₀) × (length flow ≡ length flow₀)
+Inv-loop tails capacities flow₀ s k₀ flow k =
+    (k ≤ length capacities) × (flow ≡ byPlace (startFlowAt (tableOf 0 s 0 tails [] capacities)) k ++ drop k flow₀) × (length flow ≡ length flow₀)
 
 abbrev μ-loop : tie.MeasureT-loop
-μ-loop tails caps flow₀ s k₀ flow k = length caps - k
+μ-loop tails capacities flow₀ s k₀ flow k = length capacities - k
 
 loop-holds : tie.Need-loop-holds Inv-loop μ-loop
 loop-holds c = (search needs, fill-none _ _, refl)
@@ -59,8 +59,8 @@ loop-again c =
     let at = c .before .before .before in
     let given = at .before .args in
     let k = at .loop .k in
-    let fills : (x : ℕ) → x ≡ startFlowAt (tableOf 0 (given .s) 0 (given .tails .now) [] (given .caps .now)) k
-    → set (at .loop .flow) k x ≡ byPlace (startFlowAt (tableOf 0 (given .s) 0 (given .tails .now) [] (given .caps .now))) (k + 1) ++ drop (k + 1) (given .flow .now)
+    let fills : (x : ℕ) → x ≡ startFlowAt (tableOf 0 (given .s) 0 (given .tails .now) [] (given .capacities .now)) k
+    → set (at .loop .flow) k x ≡ byPlace (startFlowAt (tableOf 0 (given .s) 0 (given .tails .now) [] (given .capacities .now))) (k + 1) ++ drop (k + 1) (given .flow .now)
     = λ x e. ap (λ (l : List ℕ). set l k x) (at .loop .inv .1) ∙ fill-place _ k x (given .flow .now) (omega arith) e in (
       omega arith,
       ⊎-elim
@@ -77,7 +77,7 @@ returns : tie.Need-returns Inv-loop μ-loop
 unfolding startFlow
 returns c n t heads =
     let at = c .before in
-    let all : at .loop .k ≡ length (at .before .args .caps .now) = omega arith in
+    let all : at .loop .k ≡ length (at .before .args .capacities .now) = omega arith in
     rw (← all) (at .loop .inv .1)
 
 pub start-flow-spec : {M : Type 1} → statement M

@@ -63,7 +63,7 @@ same-length : tie.Need-same-length Inv-loop μ-loop
 same-length c = c .before .loop .inv .3
 
 returns : tie.Need-returns Inv-loop μ-loop
-returns c tails heads caps =
+returns c tails heads capacities =
     let at = c .before in
     let given = at .before .before .args in
     let all : at .loop .i ≡ length (given .labels .now) = omega arith in

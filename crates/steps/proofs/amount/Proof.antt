@@ -13,7 +13,7 @@ use Rattle.steps.proofs.amount.Tie as tie
 far-in : (c : tie.After-far) → Node (length (c .before .before .before .before .before .before .before .before .before .before .args .excess .now)) (c .far .result)
 far-in c =
     let start = c .before .before .before .before .before .before .before .before .before .before in
-    far-node (start .args .i) (start .pre .0) (start .pre .1 .1 .0 .1) _ (c .far .ensures _ 0 0 (start .args .caps .now))
+    far-node (start .args .i) (start .pre .0) (start .pre .1 .1 .0 .1) _ (c .far .ensures _ 0 0 (start .args .capacities .now))
 
 at-node-requires : tie.Need-at-node-requires
 at-node-requires c κs = search needs
@@ -56,7 +56,7 @@ returns : tie.Need-returns
 returns c n s t label =
     let reached = c .before .before .before .before in
     let given = reached .before .before .before .before .before .before .before .before .before .before .args in
-    cc (reached .far .ensures n s t (given .caps .now), reached .before .before .residual .ensures n s t (given .heads .now))
+    cc (reached .far .ensures n s t (given .capacities .now), reached .before .before .residual .ensures n s t (given .heads .now))
 
 pub amount-spec : {M : Type 1} → statement M
 amount-spec =

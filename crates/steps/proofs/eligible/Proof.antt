@@ -12,7 +12,7 @@ residual-requires c κs = search needs
 returns : tie.Need-returns
 returns c n s t excess =
     let given = c .before .before .before .before .before .before .before .args in
-    eligible-none (tableOf n s t (given .tails .now) (given .heads .now) (given .caps .now)) (stateOf (given .flow .now) excess (given .labels .now)) (given .i) (given .k)
+    eligible-none (tableOf n s t (given .tails .now) (given .heads .now) (given .capacities .now)) (stateOf (given .flow .now) excess (given .labels .now)) (given .i) (given .k)
     (c .before .residual .result) (c .before .residual .ensures n s t (given .heads .now)) (c .if1 .taken)
 
 far-requires : tie.Need-far-requires
@@ -21,7 +21,7 @@ far-requires c κs = search needs
 at-node-requires : tie.Need-at-node-requires
 at-node-requires c κs =
     let start = c .before .before .before .before .before .before .before .before in
-    far-node (start .args .i) (start .pre .0) (start .pre .1 .1 .1) _ (c .far .ensures _ 0 0 (start .args .caps .now))
+    far-node (start .args .i) (start .pre .0) (start .pre .1 .1 .1) _ (c .far .ensures _ 0 0 (start .args .capacities .now))
 
 wide-requires : tie.Need-wide-requires
 wide-requires c κs = search needs
@@ -39,10 +39,10 @@ returns-2 : tie.Need-returns-2
 returns-2 c n s t excess =
     let tested = c .before .before .before .before .before in
     let given = tested .before .before .before .before .before .before .before .args in
-    eligible-some (tableOf n s t (given .tails .now) (given .heads .now) (given .caps .now)) (stateOf (given .flow .now) excess (given .labels .now)) (given .i) (given .k)
+    eligible-some (tableOf n s t (given .tails .now) (given .heads .now) (given .capacities .now)) (stateOf (given .flow .now) excess (given .labels .now)) (given .i) (given .k)
     (tested .before .residual .result) (c .before .before .wide .result) (c .wide2 .result)
     (tested .before .residual .ensures n s t (given .heads .now)) (tested .if1 .left)
-    (cc (c .before .before .before .before .far .ensures n s t (given .caps .now))) (cc)
+    (cc (c .before .before .before .before .far .ensures n s t (given .capacities .now))) (cc)
 
 pub eligible-spec : {M : Type 1} → statement M
 eligible-spec =

@@ -17,10 +17,10 @@ shared-slice-read-result : tie.Need-shared-slice-read-result
 shared-slice-read-result c = search needs
 
 returns : tie.Need-returns
-returns c n s t caps = rw (eq-eqb _ _ (c .before .if1 .taken))
+returns c n s t capacities = rw (eq-eqb _ _ (c .before .if1 .taken))
 
 returns-2 : tie.Need-returns-2
-returns-2 c n s t caps = rw (ne-eqb _ _ (c .if1 .left))
+returns-2 c n s t capacities = rw (ne-eqb _ _ (c .if1 .left))
 
 pub far-spec : {M : Type 1} → statement M
 far-spec =

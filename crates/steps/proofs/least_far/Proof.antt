@@ -13,15 +13,15 @@ use Rattle.steps.proofs.least_far.Statement.{statement}
 use Rattle.steps.proofs.least_far.Tie as tie
 
 abbrev Inv-loop : tie.InvT-loop
-Inv-loop tails heads caps flow labels list i best least₀ j₀ least j =
+Inv-loop tails heads capacities flow labels list i best least₀ j₀ least j =
     (j ≤ length list)
     × (least ≤ best)
     × ((n s t : ℕ) (excess : List ℕ)
-    → leastFar (tableOf n s t tails heads caps) (stateOf flow excess labels) i list best
-    ≡ leastFar (tableOf n s t tails heads caps) (stateOf flow excess labels) i (drop j list) least)
+    → leastFar (tableOf n s t tails heads capacities) (stateOf flow excess labels) i list best
+    ≡ leastFar (tableOf n s t tails heads capacities) (stateOf flow excess labels) i (drop j list) least)
 
 abbrev μ-loop : tie.MeasureT-loop
-μ-loop tails heads caps flow labels list i best least₀ j₀ least j = length list - j
+μ-loop tails heads capacities flow labels list i best least₀ j₀ least j = length list - j
 
 loop-holds : tie.Need-loop-holds Inv-loop μ-loop
 loop-holds c = (search needs, search needs, λ n s t excess. refl)

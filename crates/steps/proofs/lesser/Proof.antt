@@ -13,7 +13,7 @@ residual-requires c κs = search needs
 returns : tie.Need-returns
 returns c =
     let given = c .before .before .before .before .before .before .before .args in (
-      λ n s t excess. lesser-none (tableOf n s t (given .tails .now) (given .heads .now) (given .caps .now)) (stateOf (given .flow .now) excess (given .labels .now)) (given .i) (given .k)
+      λ n s t excess. lesser-none (tableOf n s t (given .tails .now) (given .heads .now) (given .capacities .now)) (stateOf (given .flow .now) excess (given .labels .now)) (given .i) (given .k)
           (given .best) (c .before .residual .result) (c .before .residual .ensures n s t (given .heads .now)) (c .if1 .taken),
       search needs,
     )
@@ -24,16 +24,16 @@ far-requires c κs = search needs
 at-node-requires : tie.Need-at-node-requires
 at-node-requires c κs =
     let start = c .before .before .before .before .before .before .before .before in
-    far-node (start .args .i) (start .pre .0) (start .pre .1 .1) _ (c .far .ensures _ 0 0 (start .args .caps .now))
+    far-node (start .args .i) (start .pre .0) (start .pre .1 .1) _ (c .far .ensures _ 0 0 (start .args .capacities .now))
 
 returns-2 : tie.Need-returns-2
 returns-2 c =
     let tested = c .before .before .before in
     let given = tested .before .before .before .before .before .before .before .args in (
-      λ n s t excess. lesser-some (tableOf n s t (given .tails .now) (given .heads .now) (given .caps .now)) (stateOf (given .flow .now) excess (given .labels .now)) (given .i) (given .k)
+      λ n s t excess. lesser-some (tableOf n s t (given .tails .now) (given .heads .now) (given .capacities .now)) (stateOf (given .flow .now) excess (given .labels .now)) (given .i) (given .k)
           (given .best) (tested .before .residual .result) (c .before .at-node .result) (c .before .at-node .result)
           (tested .before .residual .ensures n s t (given .heads .now)) (tested .if1 .left)
-          (cc (c .before .before .far .ensures n s t (given .caps .now))) (omega arith),
+          (cc (c .before .before .far .ensures n s t (given .capacities .now))) (omega arith),
       search needs,
     )
 
@@ -41,10 +41,10 @@ returns-3 : tie.Need-returns-3
 returns-3 c =
     let tested = c .before .before .before in
     let given = tested .before .before .before .before .before .before .before .args in (
-      λ n s t excess. lesser-some (tableOf n s t (given .tails .now) (given .heads .now) (given .caps .now)) (stateOf (given .flow .now) excess (given .labels .now)) (given .i) (given .k)
+      λ n s t excess. lesser-some (tableOf n s t (given .tails .now) (given .heads .now) (given .capacities .now)) (stateOf (given .flow .now) excess (given .labels .now)) (given .i) (given .k)
           (given .best) (tested .before .residual .result) (c .before .at-node .result) (given .best)
           (tested .before .residual .ensures n s t (given .heads .now)) (tested .if1 .left)
-          (cc (c .before .before .far .ensures n s t (given .caps .now))) (omega arith),
+          (cc (c .before .before .far .ensures n s t (given .capacities .now))) (omega arith),
       search needs,
     )
 

@@ -21,8 +21,8 @@ send-requires : tie.Need-send-requires
 send-requires c κs =
     let start = c .before .before .before .before .before .before .before .before .before .before .before .before in
     let given = start .args in (
-      (omega (arith, start .pre .0 .caps-long), omega (arith, start .pre .1 .0 .room)),
-      push-sends (given .tails .now) (given .heads .now) (given .caps .now) (given .flow .now) (given .excess .now) (given .delta) (given .i) (given .k)
+      (omega (arith, start .pre .0 .capacities-long), omega (arith, start .pre .1 .0 .room)),
+      push-sends (given .tails .now) (given .heads .now) (given .capacities .now) (given .flow .now) (given .excess .now) (given .delta) (given .i) (given .k)
           (c .before .amount .result) (start .pre .0) (start .pre .1 .0) (start .pre .1 .1 .0 .1) (c .before .amount .ensures _ 0 0 []),
     )
 
@@ -33,9 +33,9 @@ shift-requires c κs =
     let measured = c .before .before .before .before .before in
     let given = start .args in
     let fits =
-    push-shifts (given .tails .now) (given .heads .now) (given .caps .now) (given .flow .now) (given .excess .now) (given .delta) (given .i) (given .k)
+    push-shifts (given .tails .now) (given .heads .now) (given .capacities .now) (given .flow .now) (given .excess .now) (given .delta) (given .i) (given .k)
     (measured .amount .result) (start .pre .0) (start .pre .1 .0) (start .pre .1 .1 .0 .1) (measured .amount .ensures _ 0 0 [])
-    (reached .far .result) (reached .far .ensures _ 0 0 (given .caps .now)) (start .pre .1 .1 .0 .0) (start .pre .1 .1 .1 .1) in
+    (reached .far .result) (reached .far .ensures _ 0 0 (given .capacities .now)) (start .pre .1 .1 .0 .0) (start .pre .1 .1 .1 .1) in
     ((start .pre .1 .1 .0 .0, fits .0), fits .1)
 
 same-length : tie.Need-same-length
@@ -51,12 +51,12 @@ returns c n label =
     let measured = sent .before .before in
     let reached = measured .before .before .before in
     let given = reached .before .before .before .before .before .before .before .before .args in
-    pushed (tableOf n (given .s) (given .t) (given .tails .now) (given .heads .now) (given .caps .now)) (given .delta) (stateOf (given .flow .now) (given .excess .now) label)
+    pushed (tableOf n (given .s) (given .t) (given .tails .now) (given .heads .now) (given .capacities .now)) (given .delta) (stateOf (given .flow .now) (given .excess .now) label)
     (given .i) (given .k) (measured .amount .result) (reached .far .result) (reached .before .residual .result) (sent .send .last .1 .0) (shifted .shift .last .0)
-    (measured .amount .ensures n (given .s) (given .t) label) (reached .far .ensures n (given .s) (given .t) (given .caps .now))
+    (measured .amount .ensures n (given .s) (given .t) label) (reached .far .ensures n (given .s) (given .t) (given .capacities .now))
     (reached .before .residual .ensures n (given .s) (given .t) (given .heads .now))
-    (sent .send .ensures n (given .s) (given .t) (given .heads .now) (given .caps .now))
-    (shifted .shift .ensures n (given .tails .now) (given .heads .now) (given .caps .now))
+    (sent .send .ensures n (given .s) (given .t) (given .heads .now) (given .capacities .now))
+    (shifted .shift .ensures n (given .tails .now) (given .heads .now) (given .capacities .now))
 
 pub push-spec : {M : Type 1} → statement M
 push-spec =

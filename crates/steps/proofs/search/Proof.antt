@@ -13,14 +13,14 @@ use Rattle.steps.proofs.search.Statement.{statement}
 use Rattle.steps.proofs.search.Tie as tie
 
 abbrev Inv-loop : tie.InvT-loop
-Inv-loop tails heads caps flow labels list i j₀ j =
+Inv-loop tails heads capacities flow labels list i j₀ j =
     (j ≤ length list)
     × ((n s t : ℕ) (excess : List ℕ)
-    → firstEligible (tableOf n s t tails heads caps) (stateOf flow excess labels) i list
-    ≡ firstEligible (tableOf n s t tails heads caps) (stateOf flow excess labels) i (drop j list))
+    → firstEligible (tableOf n s t tails heads capacities) (stateOf flow excess labels) i list
+    ≡ firstEligible (tableOf n s t tails heads capacities) (stateOf flow excess labels) i (drop j list))
 
 abbrev μ-loop : tie.MeasureT-loop
-μ-loop tails heads caps flow labels list i j₀ j = length list - j
+μ-loop tails heads capacities flow labels list i j₀ j = length list - j
 
 loop-holds : tie.Need-loop-holds Inv-loop μ-loop
 loop-holds c = (search needs, λ n s t excess. refl)

@@ -38,13 +38,13 @@ same-length : tie.Need-same-length
 same-length c = search needs
 
 returns : tie.Need-returns
-returns c n s t heads caps = rw (eq-eqb _ _ (c .if1 .taken))
+returns c n s t heads capacities = rw (eq-eqb _ _ (c .if1 .taken))
 
 same-length-2 : tie.Need-same-length-2
 same-length-2 c = search needs
 
 returns-2 : tie.Need-returns-2
-returns-2 c n s t heads caps = rw (ne-eqb _ _ (c .if1 .left))
+returns-2 c n s t heads capacities = rw (ne-eqb _ _ (c .if1 .left))
 
 pub send-spec : {M : Type 1} → statement M
 send-spec =

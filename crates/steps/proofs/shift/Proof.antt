@@ -25,10 +25,10 @@ same-length : tie.Need-same-length
 same-length c = search needs
 
 returns : tie.Need-returns
-returns c n tails heads caps =
+returns c n tails heads capacities =
     let left = c .before .before .before in
     let given = left .before .before .before .before .before .args in
-    moved-source (tableOf n (given .s) (given .t) tails heads caps) (given .excess .now) (given .i) (given .j) (given .d)
+    moved-source (tableOf n (given .s) (given .t) tails heads capacities) (given .excess .now) (given .i) (given .j) (given .d)
     (left .before .before .at-node .result) (left .set-node .last .0)
     (left .before .before .at-node .ensures) (left .set-node .ensures) (c .if1 .taken)
 
@@ -36,10 +36,10 @@ same-length-2 : tie.Need-same-length-2
 same-length-2 c = search needs
 
 returns-2 : tie.Need-returns-2
-returns-2 c n tails heads caps =
+returns-2 c n tails heads capacities =
     let left = c .before .before .before .before in
     let given = left .before .before .before .before .before .args in
-    moved-sink (tableOf n (given .s) (given .t) tails heads caps) (given .excess .now) (given .i) (given .j) (given .d)
+    moved-sink (tableOf n (given .s) (given .t) tails heads capacities) (given .excess .now) (given .i) (given .j) (given .d)
     (left .before .before .at-node .result) (left .set-node .last .0)
     (left .before .before .at-node .ensures) (left .set-node .ensures) (c .if2 .taken)
 
@@ -62,11 +62,11 @@ same-length-3 : tie.Need-same-length-3
 same-length-3 c = search needs
 
 returns-3 : tie.Need-returns-3
-returns-3 c n tails heads caps =
+returns-3 c n tails heads capacities =
     let tests = c .before .before .before .before .before .before in
     let left = tests .before .before .before .before in
     let given = left .before .before .before .before .before .args in
-    moved-inner (tableOf n (given .s) (given .t) tails heads caps) (given .excess .now) (given .i) (given .j) (given .d)
+    moved-inner (tableOf n (given .s) (given .t) tails heads capacities) (given .excess .now) (given .i) (given .j) (given .d)
     (left .before .before .at-node .result) (left .set-node .last .0)
     (left .before .before .at-node .ensures) (left .set-node .ensures)
     (c .before .before .before .before .at-node2 .result) (c .before .before .set-node2 .last .0)

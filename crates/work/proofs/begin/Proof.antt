@@ -52,7 +52,7 @@ start-excess-requires : tie.Need-start-excess-requires
 start-excess-requires c κs =
     let start = c .before .before .before .before .before .before .before .before .before .before in
     let given = start .args in
-    subst⁻¹ (λ (m : ℕ). ArcRows m (given .tails .now) (given .heads .now) (given .caps .now)) (length-excess (given .n) (given .work .now) (start .pre .1 .0)) (start .pre .0)
+    subst⁻¹ (λ (m : ℕ). ArcRows m (given .tails .now) (given .heads .now) (given .capacities .now)) (length-excess (given .n) (given .work .now) (start .pre .1 .0)) (start .pre .0)
 
 mul-start-labels : tie.Need-mul-start-labels
 mul-start-labels c = search needs
@@ -85,7 +85,7 @@ returns c =
     let flowed = excessed .before .before .before .before in
     let start = entered excessed in
     let given = start .args in
-    let T = tableOf (given .n) (given .s) (given .t) (given .tails .now) (given .heads .now) (given .caps .now) in
+    let T = tableOf (given .n) (given .s) (given .t) (given .tails .now) (given .heads .now) (given .capacities .now) in
     let room = start .pre .1 .0 in
     let long = long-labels excessed in
     let labels-size = labelled .start-labels .kept .0 ∙ long in
@@ -95,9 +95,9 @@ returns c =
           (both-labels (given .n) (given .work .now) excess labels room (excess-size excessed) labels-size)
           ∙ start-is T (given .flow .now) (flowed .start-flow .last .1 .1 .0) excess labels (start .pre .1 .1)
           (flowed .start-flow .ensures (given .n) (given .t) (given .heads .now))
-          (excessed .start-excess .ensures ∙ ap (λ (m : ℕ). begun (tableOf m (given .s) (given .t) (given .tails .now) (given .heads .now) (given .caps .now)) .excess) (length-excess (given .n) (given .work .now) room))
-          (labelled .start-labels .ensures (given .tails .now) (given .heads .now) (given .caps .now)
-          ∙ ap (λ (m : ℕ). byNode (startLabelAt (tableOf m (given .s) (given .t) (given .tails .now) (given .heads .now) (given .caps .now))) m) long),
+          (excessed .start-excess .ensures ∙ ap (λ (m : ℕ). begun (tableOf m (given .s) (given .t) (given .tails .now) (given .heads .now) (given .capacities .now)) .excess) (length-excess (given .n) (given .work .now) room))
+          (labelled .start-labels .ensures (given .tails .now) (given .heads .now) (given .capacities .now)
+          ∙ ap (λ (m : ℕ). byNode (startLabelAt (tableOf m (given .s) (given .t) (given .tails .now) (given .heads .now) (given .capacities .now))) m) long),
       both-lists (given .n) (given .work .now) excess labels room (excess-size excessed) labels-size,
     )
 

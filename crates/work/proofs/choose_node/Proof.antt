@@ -42,11 +42,11 @@ choose-requires c κs =
     (length-excess n row (start .pre .1) ∙ sym (length-labels n row (start .pre .1)), omega (arith, length-labels n row (start .pre .1), start .pre .0))
 
 returns : tie.Need-returns
-returns c s t tails heads caps flow =
+returns c s t tails heads capacities flow =
     let start = c .before .before .before .before in
     let n = start .args .n in
     let row = start .args .work .now in
-    choice-is (tableOf n s t tails heads caps) (start .args .delta) (stateOf flow (excessPart n row) (labelsPart n row)) _ (c .choose .ensures .0) (length-labels n row (start .pre .1))
+    choice-is (tableOf n s t tails heads capacities) (start .args .delta) (stateOf flow (excessPart n row) (labelsPart n row)) _ (c .choose .ensures .0) (length-labels n row (start .pre .1))
 
 pub choose-node-spec : {M : Type 1} → statement M
 choose-node-spec =

@@ -39,17 +39,17 @@ new-label-requires c κs =
     let start = c .before .before .before .before .before .before .before in
     let given = start .args in
     let known = start .pre .1 in
-    let table = tableOf (given .n) (known .0) (known .1) (given .tails .now) (given .heads .now) (given .caps .now) in
+    let table = tableOf (given .n) (known .0) (known .1) (given .tails .now) (given .heads .now) (given .capacities .now) in
     let long = length-labels (given .n) (given .work .now) (omega (arith, known .2 .room)) in
-    let list-in : Places (length (given .caps .now)) (now (c .node-list .result)) =
-    subst⁻¹ (Places (length (given .caps .now))) (c .node-list .ensures table (known .2) refl refl) (list-places table (given .i)) in
-    (subst⁻¹ (λ (m : ℕ). ArcRows m (given .tails .now) (given .heads .now) (given .caps .now)) long (start .pre .0 .0), (start .pre .0 .1, list-in))
+    let list-in : Places (length (given .capacities .now)) (now (c .node-list .result)) =
+    subst⁻¹ (Places (length (given .capacities .now))) (c .node-list .ensures table (known .2) refl refl) (list-places table (given .i)) in
+    (subst⁻¹ (λ (m : ℕ). ArcRows m (given .tails .now) (given .heads .now) (given .capacities .now)) long (start .pre .0 .0), (start .pre .0 .1, list-in))
 
 returns : tie.Need-returns
 returns c s t known =
     let start = c .before .before .before .before .before .before .before .before in
     let given = start .args in
-    let table = tableOf (given .n) s t (given .tails .now) (given .heads .now) (given .caps .now) in
+    let table = tableOf (given .n) s t (given .tails .now) (given .heads .now) (given .capacities .now) in
     let long = length-labels (given .n) (given .work .now) (omega (arith, known .room)) in
     label-is table (stateIn (given .n) (given .flow .now) (given .work .now)) (given .i) (now (c .before .node-list .result)) _
     long (c .before .node-list .ensures table known refl refl) (c .new-label .ensures s t (excessPart (given .n) (given .work .now)))

@@ -16,15 +16,15 @@ use Rattle.work.proofs.phase.Statement.{statement}
 use Rattle.work.proofs.phase.Tie as tie
 
 abbrev Inv-loop : tie.InvT-loop
-Inv-loop n s t tails heads caps flow₀ work₀ delta taken₀ flow work taken =
-    Amid (tableOf n s t tails heads caps) delta (runIn n flow₀ work₀ taken₀) (runIn n flow work taken)
+Inv-loop n s t tails heads capacities flow₀ work₀ delta taken₀ flow work taken =
+    Amid (tableOf n s t tails heads capacities) delta (runIn n flow₀ work₀ taken₀) (runIn n flow work taken)
     × (listsPart n work ≡ listsPart n work₀)
     × (length flow ≡ length flow₀)
     × (length work ≡ length work₀)
 
 abbrev μ-loop : tie.MeasureT-loop
-μ-loop n s t tails heads caps flow₀ work₀ delta taken₀ flow work taken =
-    left (tableOf n s t tails heads caps) (runIn n flow₀ work₀ taken₀) (runIn n flow work taken)
+μ-loop n s t tails heads capacities flow₀ work₀ delta taken₀ flow work taken =
+    left (tableOf n s t tails heads capacities) (runIn n flow₀ work₀ taken₀) (runIn n flow work taken)
 
 -- The entry, the table, the run there and the run at a turn of the loop.
 module _ (c : tie.At-loop Inv-loop μ-loop) where
@@ -32,7 +32,7 @@ module _ (c : tie.At-loop Inv-loop μ-loop) where
   begun = c .before .before .before .before .before .before
 
   abbrev table : Table
-  table = tableOf (begun .args .n) (begun .args .s) (begun .args .t) (begun .args .tails .now) (begun .args .heads .now) (begun .args .caps .now)
+  table = tableOf (begun .args .n) (begun .args .s) (begun .args .t) (begun .args .tails .now) (begun .args .heads .now) (begun .args .capacities .now)
 
   abbrev first : Run
   first = runIn (begun .args .n) (begun .args .flow .now) (begun .args .work .now) (begun .args .counts)
@@ -54,7 +54,7 @@ module _ (c : tie.After-known-told Inv-loop μ-loop) where
 
   chosen : choose (table at) (begun at .args .delta) (here at .state) ≡ Node node
   chosen =
-      sym (c .before .before .before .choose-node .ensures (begun at .args .s) (begun at .args .t) (begun at .args .tails .now) (begun at .args .heads .now) (begun at .args .caps .now) (at .loop .flow))
+      sym (c .before .before .before .choose-node .ensures (begun at .args .s) (begun at .args .t) (begun at .args .tails .now) (begun at .args .heads .now) (begun at .args .capacities .now) (at .loop .flow))
       ∙ c .before .i .given .1
 
   next : Amid (table at) (begun at .args .delta) (first at) (step (table at) (begun at .args .delta) (here at) node)
@@ -64,7 +64,7 @@ loop-holds : tie.Need-loop-holds Inv-loop μ-loop
 loop-holds c =
     let start = c .before .before .before .before .before in
     let given = start .args in
-    let T = tableOf (given .n) (given .s) (given .t) (given .tails .now) (given .heads .now) (given .caps .now) in
+    let T = tableOf (given .n) (given .s) (given .t) (given .tails .now) (given .heads .now) (given .capacities .now) in
     (amid-first T (start .pre .0 .0) (given .delta) (runIn (given .n) (given .flow .now) (given .work .now) (given .counts)) (start .pre .1), refl, refl, refl)
 
 choose-node-requires : tie.Need-choose-node-requires Inv-loop μ-loop
@@ -124,7 +124,7 @@ returns c =
     let m = c .before .before .before .before in
     let start = begun m in
     let none =
-    sym (c .before .before .choose-node .ensures (start .args .s) (start .args .t) (start .args .tails .now) (start .args .heads .now) (start .args .caps .now) (m .loop .flow))
+    sym (c .before .before .choose-node .ensures (start .args .s) (start .args .t) (start .args .tails .now) (start .args .heads .now) (start .args .capacities .now) (m .loop .flow))
     ∙ c .enum-told .given .1 in
     (amid-end (table m) (start .pre .0 .0) (start .args .delta) (first m) (here m) (m .loop .inv .0) none, m .loop .inv .1)
 

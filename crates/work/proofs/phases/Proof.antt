@@ -15,16 +15,16 @@ use Rattle.work.proofs.phases.Statement.{statement}
 use Rattle.work.proofs.phases.Tie as tie
 
 abbrev Inv-loop : tie.InvT-loop
-Inv-loop n s t tails heads caps flow₀ work₀ count taken₀ done₀ delta₀ flow work taken done delta =
+Inv-loop n s t tails heads capacities flow₀ work₀ count taken₀ done₀ delta₀ flow work taken done delta =
     (done ≤ count)
-    × (delta ≡ deltaAfter (tableOf n s t tails heads caps) done)
-    × (runIn n flow work taken ≡ after (tableOf n s t tails heads caps) done)
+    × (delta ≡ deltaAfter (tableOf n s t tails heads capacities) done)
+    × (runIn n flow work taken ≡ after (tableOf n s t tails heads capacities) done)
     × (listsPart n work ≡ listsPart n work₀)
     × (length flow ≡ length flow₀)
     × (length work ≡ length work₀)
 
 abbrev μ-loop : tie.MeasureT-loop
-μ-loop n s t tails heads caps flow₀ work₀ count taken₀ done₀ delta₀ flow work taken done delta = count - done
+μ-loop n s t tails heads capacities flow₀ work₀ count taken₀ done₀ delta₀ flow work taken done delta = count - done
 
 -- The entry and the table, of a turn of the loop.
 module _ (c : tie.At-loop Inv-loop μ-loop) where
@@ -32,7 +32,7 @@ module _ (c : tie.At-loop Inv-loop μ-loop) where
   begun = c .before .before .before .before .before .before .before
 
   abbrev table : Table
-  table = tableOf (begun .args .n) (begun .args .s) (begun .args .t) (begun .args .tails .now) (begun .args .heads .now) (begun .args .caps .now)
+  table = tableOf (begun .args .n) (begun .args .s) (begun .args .t) (begun .args .tails .now) (begun .args .heads .now) (begun .args .capacities .now)
 
 scale-requires : tie.Need-scale-requires Inv-loop μ-loop
 scale-requires c κs =
@@ -43,7 +43,7 @@ loop-holds : tie.Need-loop-holds Inv-loop μ-loop
 loop-holds c =
     let start = c .before .before .before .before .before .before in
     let given = start .args in
-    let T = tableOf (given .n) (given .s) (given .t) (given .tails .now) (given .heads .now) (given .caps .now) in
+    let T = tableOf (given .n) (given .s) (given .t) (given .tails .now) (given .heads .now) (given .capacities .now) in
     (omega arith, c .scale .ensures ∙ first-delta T (given .count) (start .pre .1 .1), first-run T (start .pre .1 .0), refl, refl, refl)
 
 phase-requires : tie.Need-phase-requires Inv-loop μ-loop

@@ -18,7 +18,7 @@ module _ (c : tie.After-fill-work) where
   begun = c .before .before .before .before .before .before .before
 
   abbrev table : Table
-  table = tableOf (begun .args .n) (begun .args .s) (begun .args .t) (begun .args .tails .now) (begun .args .heads .now) (begun .args .caps .now)
+  table = tableOf (begun .args .n) (begun .args .s) (begun .args .t) (begun .args .tails .now) (begun .args .heads .now) (begun .args .capacities .now)
 
   abbrev filled : List ℕ
   filled = c .fill-work .last .1 .1 .1 .0
@@ -27,19 +27,19 @@ fill-work-requires : tie.Need-fill-work-requires
 fill-work-requires c κs =
     let start = c .before .before .before .before .before .before in
     let rows = start .pre .0 .rows in
-    (rows .ends, omega (arith, rows .caps-long, start .pre .1 .1))
+    (rows .ends, omega (arith, rows .capacities-long, start .pre .1 .1))
 
 run-filled-requires : tie.Need-run-filled-requires
 run-filled-requires c κs =
     let m = c .before .before .before .before in
     let start = begun m in
-    (start .pre .0, m .fill-work .ensures .0 (start .args .s) (start .args .t) (start .args .caps .now) (start .pre .0 .rows .caps-long), start .pre .1 .0)
+    (start .pre .0, m .fill-work .ensures .0 (start .args .s) (start .args .t) (start .args .capacities .now) (start .pre .0 .rows .capacities-long), start .pre .1 .0)
 
 work-need-requires : tie.Need-work-need-requires
 work-need-requires c κs =
     let ran = c .before .before .before .before .before in
     let start = begun (ran .before .before .before .before .before) in
-    omega (arith, start .pre .0 .rows .ends .few-arcs, start .pre .0 .rows .caps-long)
+    omega (arith, start .pre .0 .rows .ends .few-arcs, start .pre .0 .rows .capacities-long)
 
 clear-requires : tie.Need-clear-requires
 clear-requires c κs =
@@ -69,8 +69,8 @@ returns c =
       scale-is = told .1 .0 .1;
       work-is =
           cleared .clear .ensures
-          ∙ cleared-is (given .n) (length (given .caps .now)) _ (needed .work-need .ensures) (given .work .now) (filled m) (ran .run-filled .last .1 .1 .1 .1 .1 .1 .1 .0)
-          (subst (λ (k : ℕ). ElseSame (given .n) k (given .work .now) (filled m)) (sym (start .pre .0 .rows .caps-long)) (m .fill-work .ensures .1)) (told .1 .1);
+          ∙ cleared-is (given .n) (length (given .capacities .now)) _ (needed .work-need .ensures) (given .work .now) (filled m) (ran .run-filled .last .1 .1 .1 .1 .1 .1 .1 .0)
+          (subst (λ (k : ℕ). ElseSame (given .n) k (given .work .now) (filled m)) (sym (start .pre .0 .rows .capacities-long)) (m .fill-work .ensures .1)) (told .1 .1);
     }
 
 pub run-spec : {M : Type 1} → statement M

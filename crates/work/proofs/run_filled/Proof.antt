@@ -21,7 +21,7 @@ module _ (c : tie.After-count-phases) where
   begun = started .before .before .before .before .before .before .before .before
 
   abbrev table : Table
-  table = tableOf (begun .args .n) (begun .args .s) (begun .args .t) (begun .args .tails .now) (begun .args .heads .now) (begun .args .caps .now)
+  table = tableOf (begun .args .n) (begun .args .s) (begun .args .t) (begun .args .tails .now) (begun .args .heads .now) (begun .args .capacities .now)
 
   abbrev work : List ℕ
   work = started .begin .last .1 .1 .1 .1 .1 .1 .1 .0

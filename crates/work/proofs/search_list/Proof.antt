@@ -40,18 +40,18 @@ search-requires c κs =
     let start = c .before .before .before .before .before .before .before in
     let given = start .args in
     let known = start .pre .1 in
-    let table = tableOf (given .n) (known .0) (known .1) (given .tails .now) (given .heads .now) (given .caps .now) in
+    let table = tableOf (given .n) (known .0) (known .1) (given .tails .now) (given .heads .now) (given .capacities .now) in
     let long = length-labels (given .n) (given .work .now) (omega (arith, known .2 .room)) in
-    let list-in : Places (length (given .caps .now)) (now (c .node-list .result)) =
-    subst⁻¹ (Places (length (given .caps .now))) (c .node-list .ensures table (known .2) refl refl) (list-places table (given .i)) in
-    (subst⁻¹ (λ (m : ℕ). ArcRows m (given .tails .now) (given .heads .now) (given .caps .now)) long (start .pre .0 .0), (start .pre .0 .1, (subst⁻¹ (λ (m : ℕ). Node m (given .i)) long (start .pre .0 .2), list-in)))
+    let list-in : Places (length (given .capacities .now)) (now (c .node-list .result)) =
+    subst⁻¹ (Places (length (given .capacities .now))) (c .node-list .ensures table (known .2) refl refl) (list-places table (given .i)) in
+    (subst⁻¹ (λ (m : ℕ). ArcRows m (given .tails .now) (given .heads .now) (given .capacities .now)) long (start .pre .0 .0), (start .pre .0 .1, (subst⁻¹ (λ (m : ℕ). Node m (given .i)) long (start .pre .0 .2), list-in)))
 
 returns : tie.Need-returns
 returns c =
     let start = c .before .before .before .before .before .before .before .before in
     let given = start .args in (
       λ s t known.
-          let table = tableOf (given .n) s t (given .tails .now) (given .heads .now) (given .caps .now) in
+          let table = tableOf (given .n) s t (given .tails .now) (given .heads .now) (given .capacities .now) in
           let st = stateIn (given .n) (given .flow .now) (given .work .now) in
           c .search .ensures .0 (given .n) s t (excessPart (given .n) (given .work .now))
           ∙ ap (firstEligible table st (given .i)) (c .before .node-list .ensures table known refl refl),

@@ -17,7 +17,7 @@ module _ (c : tie.After-search-list) where
   begun = c .before .before .before .before .before .before .before .before
 
   abbrev table : Table
-  table = tableOf (begun .args .n) (begun .args .s) (begun .args .t) (begun .args .tails .now) (begun .args .heads .now) (begun .args .caps .now)
+  table = tableOf (begun .args .n) (begun .args .s) (begun .args .t) (begun .args .tails .now) (begun .args .heads .now) (begun .args .capacities .now)
 
   abbrev state : State
   state = stateIn (begun .args .n) (begun .args .flow .now) (begun .args .work .now)
@@ -36,7 +36,7 @@ push-from-requires c κs =
     let start = begun searched in
     let place = c .before .before .before .k in (
       (start .pre .0 .0, omega (arith, start .pre .0 .1 .room)),
-      (start .pre .1 .0, start .pre .1 .1, subst (FoundIn (length (start .args .caps .now))) (place .given .1) (searched .search-list .ensures .1)),
+      (start .pre .1 .0, start .pre .1 .1, subst (FoundIn (length (start .args .capacities .now))) (place .given .1) (searched .search-list .ensures .1)),
     )
 
 count-push-requires : tie.Need-count-push-requires
