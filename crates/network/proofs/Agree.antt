@@ -6,8 +6,8 @@ use lib.Dec.{eqb}
 use Rattle.rows.specs.Sum.{only}
 use Rattle.rows.specs.Row.{Node}
 use Rattle.rows.proofs.Sums.{sum-ext}
-use Rattle.network.specs.Network.{Network, inflow, outflow, start, finish}
-use Rattle.network.proofs.Notions.{Sound, start-node, finish-node, residual-over-ext}
+use Rattle.network.specs.Network.{Network, inflow, outflow, nearEnd, farEnd}
+use Rattle.network.proofs.Notions.{Sound, near-end-node, far-end-node, residual-over-ext}
 use Rattle.network.proofs.Steps.{State}
 use Rattle.network.proofs.Facts.{Facts}
 
@@ -51,8 +51,8 @@ facts-agree N sound Δ S U same facts =
           λ k b l r.
           omega (
             arith,
-            same .label (start N k b) (start-node N sound k b l),
-            same .label (finish N k b) (finish-node N sound k b l),
+            same .label (nearEnd N k b) (near-end-node N sound k b l),
+            same .label (farEnd N k b) (far-end-node N sound k b l),
             facts .valid k b l (omega (arith, residual-over-ext N (S .flow) (U .flow) k b (same .flow k l))),
           );
       ends =

@@ -5,7 +5,7 @@ use mathlib.Core.Bool.{Bool, true, false, not, _&&_}
 use borrow.Author.Tests.{eq-eqb, ne-eqb}
 use lib.Dec.{eqb}
 use Rattle.rows.specs.Row.{Node}
-use Rattle.network.specs.Network.{Network, Inner, inflow, outflow, start, finish, residualOver, isInner}
+use Rattle.network.specs.Network.{Network, Inner, inflow, outflow, nearEnd, farEnd, residualOver, isInner}
 
 -- Source and sink are different nodes, every arc goes from a node to a node, and none is a loop.
 pub record Sound (N : Network) : Type 0 where
@@ -33,26 +33,26 @@ pub record ResidualFrom (N : Network) (flow : ℕ → ℕ) (i : ℕ) : Type 0 wh
   pub place : ℕ
   pub way : Bool
   pub below : place < N .m
-  pub from : start N place way ≡ i
+  pub from : nearEnd N place way ≡ i
   pub left : 0 < residualOver N flow place way
 
 -- No residual arc leaves X.
 abbrev pub Closed : Network → (ℕ → ℕ) → (ℕ → Bool) → Type 0
 Closed N flow X =
-    (k : ℕ) (b : Bool) → k < N .m → 0 < residualOver N flow k b → X (start N k b) ≡ true → X (finish N k b) ≡ true
+    (k : ℕ) (b : Bool) → k < N .m → 0 < residualOver N flow k b → X (nearEnd N k b) ≡ true → X (farEnd N k b) ≡ true
 
 -- The end that an arc is taken from is a node.
-pub start-node : (N : Network) → Sound N → (k : ℕ) (b : Bool) → k < N .m → Node (N .n) (start N k b)
-start-node N sound k true l = sound .tails k l
-start-node N sound k false l = sound .heads k l
+pub near-end-node : (N : Network) → Sound N → (k : ℕ) (b : Bool) → k < N .m → Node (N .n) (nearEnd N k b)
+near-end-node N sound k true l = sound .tails k l
+near-end-node N sound k false l = sound .heads k l
 
 -- So is the end that it is taken to.
-pub finish-node : (N : Network) → Sound N → (k : ℕ) (b : Bool) → k < N .m → Node (N .n) (finish N k b)
-finish-node N sound k true l = sound .heads k l
-finish-node N sound k false l = sound .tails k l
+pub far-end-node : (N : Network) → Sound N → (k : ℕ) (b : Bool) → k < N .m → Node (N .n) (farEnd N k b)
+far-end-node N sound k true l = sound .heads k l
+far-end-node N sound k false l = sound .tails k l
 
 -- An arc's ends differ.
-pub ends-differ : (N : Network) → Sound N → (k : ℕ) (b : Bool) → k < N .m → start N k b ≡ finish N k b → ⊥
+pub ends-differ : (N : Network) → Sound N → (k : ℕ) (b : Bool) → k < N .m → nearEnd N k b ≡ farEnd N k b → ⊥
 ends-differ N sound k true l e = sound .loopless k l e
 ends-differ N sound k false l e = sound .loopless k l (sym e)
 

@@ -9,8 +9,8 @@ use Rattle.rows.specs.Sum.{sum, only}
 use Rattle.rows.specs.Row.{Node}
 use Rattle.rows.proofs.Functions.{put}
 use Rattle.rows.proofs.Sums.{by-test, by-equal, only-true, only-false, only-plus, put-same, put-other, sum-change}
-use Rattle.network.specs.Network.{Network, Inner, inflow, outflow, start, finish, residualOver, isInner}
-use Rattle.network.proofs.Notions.{Sound, Preflow, finish-node, ends-differ, inner-test, source-test, sink-test, residual-over-ext}
+use Rattle.network.specs.Network.{Network, Inner, inflow, outflow, nearEnd, farEnd, residualOver, isInner}
+use Rattle.network.proofs.Notions.{Sound, Preflow, far-end-node, ends-differ, inner-test, source-test, sink-test, residual-over-ext}
 use Rattle.network.proofs.Steps.{State, moved, taken, brought, push, Chosen, Eligible, amount}
 use Rattle.network.proofs.Gaps.{Valid}
 use Rattle.network.proofs.Facts.{Facts, chosen-inner}
@@ -26,8 +26,8 @@ keyed-change m key flow k w v l =
 
 -- A push of d moves d of inflow less outflow from its start to its finish, at every node v.
 push-balance : (N : Network) (flow : ℕ → ℕ) (k : ℕ) (b : Bool) (d : ℕ) → k < N .m → d ≤ residualOver N flow k b → (v : ℕ)
-    → inflow N (put flow k (moved b (flow k) d)) v + outflow N flow v + only (eqb (start N k b) v) d
-    ≡ inflow N flow v + outflow N (put flow k (moved b (flow k) d)) v + only (eqb (finish N k b) v) d
+    → inflow N (put flow k (moved b (flow k) d)) v + outflow N flow v + only (eqb (nearEnd N k b) v) d
+    ≡ inflow N flow v + outflow N (put flow k (moved b (flow k) d)) v + only (eqb (farEnd N k b) v) d
 unfolding inflow outflow
 push-balance N flow k true d l fits v =
     omega (
@@ -56,8 +56,8 @@ moved-range N flow k true d fits low high = omega arith
 moved-range N flow k false d fits low high = omega arith
 
 -- An arc that goes down by one label is valid both ways.
-down-valid : (N : Network) (label : ℕ → ℕ) (k : ℕ) (b c : Bool) → label (start N k b) ≡ label (finish N k b) + 1
-    → label (start N k c) ≤ label (finish N k c) + 1
+down-valid : (N : Network) (label : ℕ → ℕ) (k : ℕ) (b c : Bool) → label (nearEnd N k b) ≡ label (farEnd N k b) + 1
+    → label (nearEnd N k c) ≤ label (farEnd N k c) + 1
 down-valid N label k true true e = omega arith
 down-valid N label k true false e = omega arith
 down-valid N label k false true e = omega arith
@@ -71,90 +71,90 @@ cond-le false x y z p q = q
 -- A push that the excess, the residual and the far end's room in Delta allow, over an arc that goes down by one label.
 pub record Allowed (N : Network) (Δ : ℕ) (S : State) (k : ℕ) (b : Bool) (d : ℕ) : Type 0 where
   pub below : k < N .m
-  pub inner : Inner N (start N k b)
-  pub enough : d ≤ S .excess (start N k b)
+  pub inner : Inner N (nearEnd N k b)
+  pub enough : d ≤ S .excess (nearEnd N k b)
   pub fits : d ≤ residualOver N (S .flow) k b
-  pub holds : S .excess (finish N k b) + d ≤ Δ
-  pub down : S .label (start N k b) ≡ S .label (finish N k b) + 1
+  pub holds : S .excess (farEnd N k b) + d ≤ Δ
+  pub down : S .label (nearEnd N k b) ≡ S .label (farEnd N k b) + 1
 
 module _ (N : Network) (sound : Sound N) (Δ : ℕ) (S : State) (k : ℕ) (b : Bool) (d : ℕ) (ok : Allowed N Δ S k b d) where
   -- The excesses after a push: at the far end,
-  pub far-excess : (v : ℕ) → v ≡ finish N k b → push N k b d S .excess v ≡ brought N k b d S
-  far-excess v e = put-same (taken N k b d S) (finish N k b) (brought N k b d S) v e
+  pub far-excess : (v : ℕ) → v ≡ farEnd N k b → push N k b d S .excess v ≡ brought N k b d S
+  far-excess v e = put-same (taken N k b d S) (farEnd N k b) (brought N k b d S) v e
 
   -- at the chosen node,
-  pub near-excess : (v : ℕ) → v ≡ start N k b → push N k b d S .excess v ≡ S .excess (start N k b) - d
+  pub near-excess : (v : ℕ) → v ≡ nearEnd N k b → push N k b d S .excess v ≡ S .excess (nearEnd N k b) - d
   near-excess v e =
-      put-other (taken N k b d S) (finish N k b) (brought N k b d S) v (λ p. ends-differ N sound k b (ok .below) (sym e ∙ p))
-      ∙ put-same (S .excess) (start N k b) (S .excess (start N k b) - d) v e
+      put-other (taken N k b d S) (farEnd N k b) (brought N k b d S) v (λ p. ends-differ N sound k b (ok .below) (sym e ∙ p))
+      ∙ put-same (S .excess) (nearEnd N k b) (S .excess (nearEnd N k b) - d) v e
 
   -- and at the others.
-  pub other-excess : (v : ℕ) → (v ≡ start N k b → ⊥) → (v ≡ finish N k b → ⊥) → push N k b d S .excess v ≡ S .excess v
+  pub other-excess : (v : ℕ) → (v ≡ nearEnd N k b → ⊥) → (v ≡ farEnd N k b → ⊥) → push N k b d S .excess v ≡ S .excess v
   other-excess v p q =
-      put-other (taken N k b d S) (finish N k b) (brought N k b d S) v q
-      ∙ put-other (S .excess) (start N k b) (S .excess (start N k b) - d) v p
+      put-other (taken N k b d S) (farEnd N k b) (brought N k b d S) v q
+      ∙ put-other (S .excess) (nearEnd N k b) (S .excess (nearEnd N k b) - d) v p
 
   -- What the far end then has, where it is inner,
-  pub brought-inner : isInner N (finish N k b) ≡ true → brought N k b d S ≡ S .excess (finish N k b) + d
-  brought-inner e = ap (λ x. cond x (S .excess (finish N k b) + d) (S .excess (finish N k b))) e
+  pub brought-inner : isInner N (farEnd N k b) ≡ true → brought N k b d S ≡ S .excess (farEnd N k b) + d
+  brought-inner e = ap (λ x. cond x (S .excess (farEnd N k b) + d) (S .excess (farEnd N k b))) e
 
   -- and where it is source or sink.
-  pub brought-outer : isInner N (finish N k b) ≡ false → brought N k b d S ≡ S .excess (finish N k b)
-  brought-outer e = ap (λ x. cond x (S .excess (finish N k b) + d) (S .excess (finish N k b))) e
+  pub brought-outer : isInner N (farEnd N k b) ≡ false → brought N k b d S ≡ S .excess (farEnd N k b)
+  brought-outer e = ap (λ x. cond x (S .excess (farEnd N k b) + d) (S .excess (farEnd N k b))) e
 
   -- At an inner node the excess changes by what the push brings and takes.
   push-excess : (v : ℕ) → Inner N v
-      → push N k b d S .excess v + only (eqb (start N k b) v) d ≡ S .excess v + only (eqb (finish N k b) v) d
+      → push N k b d S .excess v + only (eqb (nearEnd N k b) v) d ≡ S .excess v + only (eqb (farEnd N k b) v) d
   push-excess v inner =
-      by-equal v (finish N k b)
+      by-equal v (farEnd N k b)
       (λ p.
       omega (
         arith,
         far-excess v p,
         brought-inner (ap (isInner N) (sym p) ∙ inner-test N v inner),
         ap (S .excess) p,
-        only-false (eqb (start N k b) v) d (ne-eqb (start N k b) v (λ q. ends-differ N sound k b (ok .below) (q ∙ p))),
-        only-true (eqb (finish N k b) v) d (eq-eqb (finish N k b) v (sym p)),
+        only-false (eqb (nearEnd N k b) v) d (ne-eqb (nearEnd N k b) v (λ q. ends-differ N sound k b (ok .below) (q ∙ p))),
+        only-true (eqb (farEnd N k b) v) d (eq-eqb (farEnd N k b) v (sym p)),
       ))
       (λ p.
-      by-equal v (start N k b)
+      by-equal v (nearEnd N k b)
       (λ q.
       omega (
         arith,
         near-excess v q,
         ok .enough,
         ap (S .excess) q,
-        only-true (eqb (start N k b) v) d (eq-eqb (start N k b) v (sym q)),
-        only-false (eqb (finish N k b) v) d (ne-eqb (finish N k b) v (λ r. p (sym r))),
+        only-true (eqb (nearEnd N k b) v) d (eq-eqb (nearEnd N k b) v (sym q)),
+        only-false (eqb (farEnd N k b) v) d (ne-eqb (farEnd N k b) v (λ r. p (sym r))),
       ))
       (λ q.
       omega (
         arith,
         other-excess v q p,
-        only-false (eqb (start N k b) v) d (ne-eqb (start N k b) v (λ r. q (sym r))),
-        only-false (eqb (finish N k b) v) d (ne-eqb (finish N k b) v (λ r. p (sym r))),
+        only-false (eqb (nearEnd N k b) v) d (ne-eqb (nearEnd N k b) v (λ r. q (sym r))),
+        only-false (eqb (farEnd N k b) v) d (ne-eqb (farEnd N k b) v (λ r. p (sym r))),
       )))
 
   -- Source and sink keep no excess.
   push-outer : (v : ℕ) → isInner N v ≡ false → S .excess v ≡ 0 → push N k b d S .excess v ≡ 0
   push-outer v outer before =
-      by-equal v (finish N k b)
+      by-equal v (farEnd N k b)
       (λ p. far-excess v p ∙ brought-outer (ap (isInner N) (sym p) ∙ outer) ∙ ap (S .excess) (sym p) ∙ before)
       (λ p. other-excess v (λ q. true≢false (sym (inner-test N _ (ok .inner)) ∙ ap (isInner N) (sym q) ∙ outer)) p ∙ before)
 
   -- Every excess stays at most Delta.
   push-small : ((v : ℕ) → Node (N .n) v → S .excess v ≤ Δ) → (v : ℕ) → Node (N .n) v → push N k b d S .excess v ≤ Δ
   push-small small v node =
-      by-equal v (finish N k b)
+      by-equal v (farEnd N k b)
       (λ p.
       omega (
         arith,
         far-excess v p,
-        cond-le (isInner N (finish N k b)) (S .excess (finish N k b) + d) (S .excess (finish N k b)) Δ (ok .holds)
+        cond-le (isInner N (farEnd N k b)) (S .excess (farEnd N k b) + d) (S .excess (farEnd N k b)) Δ (ok .holds)
             (omega (arith, ok .holds)),
       ))
       (λ p.
-      by-equal v (start N k b)
+      by-equal v (nearEnd N k b)
       (λ q. omega (arith, near-excess v q, small v node, ap (S .excess) q))
       (λ q. omega (arith, other-excess v q p, small v node)))
 
@@ -190,7 +190,7 @@ module _ (N : Network) (sound : Sound N) (Δ : ℕ) (S : State) (k : ℕ) (b : B
   push-valid valid a c l r =
       by-equal a k
       (λ e.
-      subst (λ (x : ℕ). S .label (start N x c) ≤ S .label (finish N x c) + 1) (sym e) (down-valid N (S .label) k b c (ok .down)))
+      subst (λ (x : ℕ). S .label (nearEnd N x c) ≤ S .label (farEnd N x c) + 1) (sym e) (down-valid N (S .label) k b c (ok .down)))
       (λ e.
       valid a c l
       (omega (
@@ -209,26 +209,26 @@ module _ (N : Network) (sound : Sound N) (Δ : ℕ) (S : State) (k : ℕ) (b : B
         small = push-small (facts .small);
       }
 
-module _ (N : Network) (sound : Sound N) (Δ : ℕ) (S : State) (facts : Facts N Δ S) (k : ℕ) (b : Bool) (chosen : Chosen N Δ S (start N k b)) (arc : Eligible N S k b) where
+module _ (N : Network) (sound : Sound N) (Δ : ℕ) (S : State) (facts : Facts N Δ S) (k : ℕ) (b : Bool) (chosen : Chosen N Δ S (nearEnd N k b)) (arc : Eligible N S k b) where
   -- The far end of an eligible arc is no node to choose: twice its excess is at most Delta.
-  far-small : 2 * S .excess (finish N k b) ≤ Δ
+  far-small : 2 * S .excess (farEnd N k b) ≤ Δ
   far-small =
-      by-test (ltb Δ (2 * S .excess (finish N k b)))
+      by-test (ltb Δ (2 * S .excess (farEnd N k b)))
       (λ e.
       absurd
       (omega (
         arith,
         arc .down,
-        chosen .lowest (finish N k b) (finish-node N sound k b (arc .below)) (ltb-true Δ (2 * S .excess (finish N k b)) e),
+        chosen .lowest (farEnd N k b) (far-end-node N sound k b (arc .below)) (ltb-true Δ (2 * S .excess (farEnd N k b)) e),
       )))
-      (ltb-false Δ (2 * S .excess (finish N k b)))
+      (ltb-false Δ (2 * S .excess (farEnd N k b)))
 
   -- What is pushed is allowed.
   pub amount-allowed : Allowed N Δ S k b (amount N Δ S k b)
   amount-allowed =
       record {
         below = arc .below;
-        inner = chosen-inner N sound Δ S facts (start N k b) chosen;
+        inner = chosen-inner N sound Δ S facts (nearEnd N k b) chosen;
         enough = omega arith;
         fits = omega arith;
         holds = omega (arith, far-small);

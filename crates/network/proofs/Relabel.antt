@@ -4,7 +4,7 @@ use mathlib.Core.Path.{refl, ap, sym, _∙_}
 use native.Mathlib.Omega.{arith}
 use Rattle.rows.proofs.Functions.{put}
 use Rattle.rows.proofs.Sums.{by-equal, put-same, put-other}
-use Rattle.network.specs.Network.{Network, start, finish}
+use Rattle.network.specs.Network.{Network, nearEnd, farEnd}
 use Rattle.network.proofs.Notions.{Sound, NoMinimums}
 use Rattle.network.proofs.Steps.{State, relabel, Chosen, NewLabel}
 use Rattle.network.proofs.Gaps.{Valid, EndLabels, label-bound}
@@ -32,19 +32,19 @@ module _ (N : Network) (sound : Sound N) (Δ : ℕ) (S : State) (facts : Facts N
   -- Labels stay valid.
   relabel-valid : Valid N (S .flow) (put (S .label) i v)
   relabel-valid k b l r =
-      by-equal (start N k b) i
+      by-equal (nearEnd N k b) i
       (λ e.
       omega (
         arith,
-        put-same (S .label) i v (start N k b) e,
-        labels-kept (finish N k b),
+        put-same (S .label) i v (nearEnd N k b) e,
+        labels-kept (farEnd N k b),
         new .least k b l e r,
       ))
       (λ e.
       omega (
         arith,
-        put-other (S .label) i v (start N k b) e,
-        labels-kept (finish N k b),
+        put-other (S .label) i v (nearEnd N k b) e,
+        labels-kept (farEnd N k b),
         facts .valid k b l r,
       ))
 

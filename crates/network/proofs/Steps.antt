@@ -8,7 +8,7 @@ use lib.Dec.{eqb}
 use Rattle.rows.specs.Sum.{only}
 use Rattle.rows.specs.Row.{Node}
 use Rattle.rows.proofs.Functions.{put}
-use Rattle.network.specs.Network.{Network, isInner, inflow, outflow, start, finish, residualOver}
+use Rattle.network.specs.Network.{Network, isInner, inflow, outflow, nearEnd, farEnd, residualOver}
 use Rattle.network.proofs.Notions.{ResidualFrom}
 
 -- A state: the flow by place, the excess and the label by node.
@@ -47,12 +47,12 @@ pub record Chosen (N : Network) (Δ : ℕ) (S : State) (i : ℕ) : Type 0 where
 pub record Eligible (N : Network) (S : State) (k : ℕ) (b : Bool) : Type 0 where
   pub below : k < N .m
   pub left : 0 < residualOver N (S .flow) k b
-  pub down : S .label (start N k b) ≡ S .label (finish N k b) + 1
+  pub down : S .label (nearEnd N k b) ≡ S .label (farEnd N k b) + 1
 
 -- What is pushed: min(excess, residual, Delta - excess of the far end).
 abbrev pub amount : Network → ℕ → State → ℕ → Bool → ℕ
 amount N Δ S k b =
-    min (S .excess (start N k b)) (min (residualOver N (S .flow) k b) (Δ - S .excess (finish N k b)))
+    min (S .excess (nearEnd N k b)) (min (residualOver N (S .flow) k b) (Δ - S .excess (farEnd N k b)))
 
 -- The flow of an arc after d more are taken forward, or backward.
 abbrev pub moved : Bool → ℕ → ℕ → ℕ
@@ -61,27 +61,27 @@ moved false f d = f - d
 
 -- The excesses with d taken from the near end.
 abbrev pub taken : Network → ℕ → Bool → ℕ → State → ℕ → ℕ
-taken N k b d S = put (S .excess) (start N k b) (S .excess (start N k b) - d)
+taken N k b d S = put (S .excess) (nearEnd N k b) (S .excess (nearEnd N k b) - d)
 
 -- The far end's excess with d brought to it; source and sink keep none of it.
 abbrev pub brought : Network → ℕ → Bool → ℕ → State → ℕ
-brought N k b d S = cond (isInner N (finish N k b)) (S .excess (finish N k b) + d) (S .excess (finish N k b))
+brought N k b d S = cond (isInner N (farEnd N k b)) (S .excess (farEnd N k b) + d) (S .excess (farEnd N k b))
 
 -- A push of d over the arc at k, forward or backward.
 abbrev pub push : Network → ℕ → Bool → ℕ → State → State
 push N k b d S =
     record {
       flow = put (S .flow) k (moved b (S .flow k) d);
-      excess = put (taken N k b d S) (finish N k b) (brought N k b d S);
+      excess = put (taken N k b d S) (farEnd N k b) (brought N k b d S);
       label = S .label;
     }
 
 -- Step 3: no arc out of i is eligible, and v is one more than the least label among far ends of residual arcs.
 pub record NewLabel (N : Network) (S : State) (i v : ℕ) : Type 0 where
-  pub stuck : (k : ℕ) (b : Bool) → k < N .m → start N k b ≡ i → 0 < residualOver N (S .flow) k b → S .label i ≡ S .label (finish N k b) + 1 → ⊥
-  pub least : (k : ℕ) (b : Bool) → k < N .m → start N k b ≡ i → 0 < residualOver N (S .flow) k b → v ≤ S .label (finish N k b) + 1
+  pub stuck : (k : ℕ) (b : Bool) → k < N .m → nearEnd N k b ≡ i → 0 < residualOver N (S .flow) k b → S .label i ≡ S .label (farEnd N k b) + 1 → ⊥
+  pub least : (k : ℕ) (b : Bool) → k < N .m → nearEnd N k b ≡ i → 0 < residualOver N (S .flow) k b → v ≤ S .label (farEnd N k b) + 1
   pub arc : ResidualFrom N (S .flow) i
-  pub reached : v ≡ S .label (finish N (arc .place) (arc .way)) + 1
+  pub reached : v ≡ S .label (farEnd N (arc .place) (arc .way)) + 1
 
 -- A relabel: node i at the label v.
 abbrev pub relabel : ℕ → ℕ → State → State
@@ -90,9 +90,9 @@ relabel i v S = record { flow = S .flow; excess = S .excess; label = put (S .lab
 -- Steps of one phase from S, with the counts of saturating pushes, nonsaturating pushes and relabels.
 pub data Steps (N : Network) (Δ : ℕ) (S : State) : State → ℕ → ℕ → ℕ → Type 0 where
   no-steps : Steps N Δ S S 0 0 0
-  saturating : {U : State} {a c r : ℕ} → Steps N Δ S U a c r → (k : ℕ) (b : Bool) → Chosen N Δ U (start N k b) → Eligible N U k b
+  saturating : {U : State} {a c r : ℕ} → Steps N Δ S U a c r → (k : ℕ) (b : Bool) → Chosen N Δ U (nearEnd N k b) → Eligible N U k b
       → amount N Δ U k b ≡ residualOver N (U .flow) k b → Steps N Δ S (push N k b (amount N Δ U k b) U) (a + 1) c r
-  nonsaturating : {U : State} {a c r : ℕ} → Steps N Δ S U a c r → (k : ℕ) (b : Bool) → Chosen N Δ U (start N k b) → Eligible N U k b
+  nonsaturating : {U : State} {a c r : ℕ} → Steps N Δ S U a c r → (k : ℕ) (b : Bool) → Chosen N Δ U (nearEnd N k b) → Eligible N U k b
       → amount N Δ U k b < residualOver N (U .flow) k b → Steps N Δ S (push N k b (amount N Δ U k b) U) a (c + 1) r
   relabels : {U : State} {a c r : ℕ} → Steps N Δ S U a c r → (i v : ℕ) → Chosen N Δ U i → NewLabel N U i v
       → Steps N Δ S (relabel i v U) a c (r + 1)

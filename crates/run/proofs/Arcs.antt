@@ -11,8 +11,8 @@ use lib.Dec.{eqb, ltb}
 use Rattle.rows.specs.Row.{atNode, atPlace}
 use Rattle.rows.specs.Row.{Node as NodeOf}
 use Rattle.rows.proofs.Sums.{by-test, both-true}
-use Rattle.network.specs.Network.{start, finish, residualOver}
-use Rattle.network.proofs.Notions.{Sound, ResidualFrom, finish-node}
+use Rattle.network.specs.Network.{nearEnd, farEnd, residualOver}
+use Rattle.network.proofs.Notions.{Sound, ResidualFrom, far-end-node}
 use Rattle.network.proofs.Steps.{Eligible, NewLabel}
 use Rattle.table.specs.Table.{Table, arcs, tail, head, networkOf}
 use Rattle.run.specs.Residual.{way, far, residual, touches, list}
@@ -129,19 +129,19 @@ module _ (t : Table) (st : State) (i : ℕ) where
       (least-is l (lesser t st i k best))
 
 -- An arc that touches node i is taken from i.
-way-start : (t : Table) (i k : ℕ) → touches t i k ≡ true → start (networkOf t) k (way t i k) ≡ i
+way-start : (t : Table) (i k : ℕ) → touches t i k ≡ true → nearEnd (networkOf t) k (way t i k) ≡ i
 way-start t i k e =
     by-test (way t i k)
-    (λ p. ap (start (networkOf t) k) p ∙ eqb-true (tail t k) i p)
-    (λ p. ap (start (networkOf t) k) p ∙ eqb-true (head t k) i (ap (λ b. b || eqb (head t k) i) (sym p) ∙ e))
+    (λ p. ap (nearEnd (networkOf t) k) p ∙ eqb-true (tail t k) i p)
+    (λ p. ap (nearEnd (networkOf t) k) p ∙ eqb-true (head t k) i (ap (λ b. b || eqb (head t k) i) (sym p) ∙ e))
 
 -- What is taken from i is taken in this way,
-start-way : (t : Table) → Sound (networkOf t) → (i k : ℕ) (b : Bool) → k < arcs t → start (networkOf t) k b ≡ i → way t i k ≡ b
+start-way : (t : Table) → Sound (networkOf t) → (i k : ℕ) (b : Bool) → k < arcs t → nearEnd (networkOf t) k b ≡ i → way t i k ≡ b
 start-way t sound i k true l e = eq-eqb (tail t k) i e
 start-way t sound i k false l e = ne-eqb (tail t k) i (λ p. sound .loopless k l (p ∙ sym e))
 
 -- and touches i.
-start-touches : (t : Table) (i k : ℕ) (b : Bool) → start (networkOf t) k b ≡ i → touches t i k ≡ true
+start-touches : (t : Table) (i k : ℕ) (b : Bool) → nearEnd (networkOf t) k b ≡ i → touches t i k ≡ true
 start-touches t i k true e = ap (λ x. x || eqb (head t k) i) (eq-eqb (tail t k) i e)
 start-touches t i k false e = ap (λ x. way t i k || x) (eq-eqb (head t k) i e) ∙ or-true (way t i k)
   where
@@ -150,7 +150,7 @@ start-touches t i k false e = ap (λ x. way t i k || x) (eq-eqb (head t k) i e) 
     or-true false = refl
 
 -- A member of node i's list is taken from i.
-pub member-start : (t : Table) (i : ℕ) {k : ℕ} → List·Memᴰ k (list t i) → start (networkOf t) k (way t i k) ≡ i
+pub member-start : (t : Table) (i : ℕ) {k : ℕ} → List·Memᴰ k (list t i) → nearEnd (networkOf t) k (way t i k) ≡ i
 member-start t i {k} member = way-start t i k (list-touches t i member .1)
 
 module _ (t : Table) (sound : Sound (networkOf t)) (st : State) (i : ℕ) where
@@ -169,7 +169,7 @@ module _ (t : Table) (sound : Sound (networkOf t)) (st : State) (i : ℕ) where
             );
       }
 
-  module _ (k : ℕ) (b : Bool) (l : k < arcs t) (e : start (networkOf t) k b ≡ i) where
+  module _ (k : ℕ) (b : Bool) (l : k < arcs t) (e : nearEnd (networkOf t) k b ≡ i) where
     -- An arc that the network takes from i stands in i's list,
     in-list : List·Memᴰ k (list t i)
     in-list = touches-list t i k l (start-touches t i k b e)
@@ -179,21 +179,21 @@ module _ (t : Table) (sound : Sound (networkOf t)) (st : State) (i : ℕ) where
     same-way = start-way t sound i k b l e
 
     -- One with residual that goes down by one from i is eligible.
-    arc-eligible : 0 < residualOver (networkOf t) (atPlace (st .flow)) k b → atNode (st .label) i ≡ atNode (st .label) (finish (networkOf t) k b) + 1
+    arc-eligible : 0 < residualOver (networkOf t) (atPlace (st .flow)) k b → atNode (st .label) i ≡ atNode (st .label) (farEnd (networkOf t) k b) + 1
         → eligible t st i k ≡ true
     arc-eligible some down =
         ap₂ _&&_
         (lt-ltb 0 (residual t (st .flow) i k) (omega (arith, ap (residualOver (networkOf t) (atPlace (st .flow)) k) same-way)))
         (eq-eqb (atNode (st .label) (far t i k) + 1) (atNode (st .label) i)
-        (omega (arith, ap (λ w. atNode (st .label) (finish (networkOf t) k w)) same-way)))
+        (omega (arith, ap (λ w. atNode (st .label) (farEnd (networkOf t) k w)) same-way)))
 
     -- The least label is at most the far end's.
-    low : 0 < residualOver (networkOf t) (atPlace (st .flow)) k b → leastFar t st i (list t i) (top t) ≤ atNode (st .label) (finish (networkOf t) k b)
+    low : 0 < residualOver (networkOf t) (atPlace (st .flow)) k b → leastFar t st i (list t i) (top t) ≤ atNode (st .label) (farEnd (networkOf t) k b)
     low some =
         omega (
           arith,
           least-far t st i (list t i) (top t) k in-list (omega (arith, ap (residualOver (networkOf t) (atPlace (st .flow)) k) same-way)),
-          ap (λ w. atNode (st .label) (finish (networkOf t) k w)) same-way,
+          ap (λ w. atNode (st .label) (farEnd (networkOf t) k w)) same-way,
         )
 
   -- The least label is the theory's: no arc is eligible, some arc is residual and labels are below 2n, so one more is the new label.
@@ -207,7 +207,7 @@ module _ (t : Table) (sound : Sound (networkOf t)) (st : State) (i : ℕ) where
           omega (
             arith,
             low (out .place) (out .way) (out .below) (out .from) (out .left),
-            high (finish (networkOf t) (out .place) (out .way)) (finish-node (networkOf t) sound (out .place) (out .way) (out .below)),
+            high (farEnd (networkOf t) (out .place) (out .way)) (far-end-node (networkOf t) sound (out .place) (out .way) (out .below)),
           )
 
       answer : AtFarEnd t st i (list t i) (leastFar t st i (list t i) (top t)) → NewLabel (networkOf t) (functionsOf st) i (newLabel t st i)

@@ -11,7 +11,7 @@ use Rattle.rows.specs.Row.{Node as NodeOf}
 use Rattle.rows.proofs.Sums.{put-other}
 use Rattle.rows.proofs.Rows.{place-set, node-set, put-self}
 use Rattle.network.specs.Network.{residualOver, isInner}
-use Rattle.network.proofs.Notions.{Sound, finish-node, ends-differ}
+use Rattle.network.proofs.Notions.{Sound, far-end-node, ends-differ}
 use Rattle.network.proofs.Steps.{taken, brought}
 use Rattle.network.proofs.Steps.{State as Functions, moved as changed, push as pushed, relabel as relabelled, amount as moves}
 use Rattle.table.specs.Table.{Table, arcs, networkOf}
@@ -72,7 +72,7 @@ module _ (t : Table) (sound : Sound (networkOf t)) (st : State) (fits : Fits t s
 
     -- and the far end is a node.
     far-node : NodeOf (t .nodes) (far t i k)
-    far-node = finish-node (networkOf t) sound k (way t i k) below
+    far-node = far-end-node (networkOf t) sound k (way t i k) below
 
     -- It is not i.
     far-other : far t i k ≡ i → ⊥

@@ -5,7 +5,7 @@ use mathlib.Core.Bool.{Bool, true, false, cond}
 use mathlib.Core.List.{List·Memᴰ}
 use native.Mathlib.Omega.{arith}
 use borrow.Author.Tests.{eqb-true, eqb-false}
-use Rattle.network.specs.Network.{start}
+use Rattle.network.specs.Network.{nearEnd}
 use Rattle.network.proofs.Notions.{ResidualFrom}
 use Rattle.network.proofs.Steps.{Chosen, Eligible, Steps, no-steps, saturating, nonsaturating, relabels}
 use Rattle.network.proofs.Steps.{State as Functions, push as pushed, amount as moves}
@@ -84,7 +84,7 @@ module _ (t : Table) (ok : Accepted t) (delta : ℕ) (from : Run) (facts : Facts
           ∙ ap (λ d. pushed (networkOf t) k (way t i k) d (functionsOf (r .state))) moves-same
 
       -- it starts at the chosen node,
-      near : Chosen (networkOf t) delta (functionsOf (r .state)) (start (networkOf t) k (way t i k))
+      near : Chosen (networkOf t) delta (functionsOf (r .state)) (nearEnd (networkOf t) k (way t i k))
       near = subst (Chosen (networkOf t) delta (functionsOf (r .state))) (sym (member-start t i member)) chosen
 
       -- it is a step of the theory, saturating or not as the rows' push is,

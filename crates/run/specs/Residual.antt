@@ -4,7 +4,7 @@ use mathlib.Core.Bool.{Bool, cond, _||_}
 use mathlib.Core.List.{List, [], _∷_, _++_}
 use lib.Dec.{eqb}
 use Rattle.rows.specs.Row.{atPlace}
-use Rattle.network.specs.Network.{finish, residualOver}
+use Rattle.network.specs.Network.{farEnd, residualOver}
 use Rattle.table.specs.Table.{Table, arcs, tail, head, networkOf}
 
 -- The way in which node i takes the arc at place k, away from itself: from tail to head where i is its tail.
@@ -13,7 +13,7 @@ way t i k = eqb (tail t k) i
 
 -- The far end of the arc at place k, taken away from i.
 abbrev pub far : Table → ℕ → ℕ → ℕ
-far t i k = finish (networkOf t) k (way t i k)
+far t i k = farEnd (networkOf t) k (way t i k)
 
 -- Its residual: capacity less flow from tail to head, the flow from head to tail.
 abbrev pub residual : Table → List ℕ → ℕ → ℕ → ℕ

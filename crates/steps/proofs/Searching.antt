@@ -10,7 +10,7 @@ use lib.Seq.{drop-cons}
 use lib.Dec.{eqb}
 use borrow.Author.Tests.{lt-ltb}
 use Rattle.rows.specs.Row.{Node, atPlace, atNode}
-use Rattle.network.specs.Network.{finish}
+use Rattle.network.specs.Network.{farEnd}
 use Rattle.table.specs.Table.{Table, tableOf, networkOf, tail, head}
 use Rattle.table.specs.Accepted.{ArcRows}
 use Rattle.run.specs.Residual.{way, far, residual}
@@ -23,7 +23,7 @@ use Rattle.run.specs.declared.Found.the-variants.{Place, Missing}
 pub far-either : (P : ℕ → Type 0) (t : Table) (i k : ℕ) → P (head t k) → P (tail t k) → P (far t i k)
 far-either P t i k at-head at-tail = go (way t i k)
   where
-    go : (b : Bool) → P (finish (networkOf t) k b)
+    go : (b : Bool) → P (farEnd (networkOf t) k b)
     go true = at-head
     go false = at-tail
 
