@@ -11,7 +11,7 @@ use Rattle.run.specs.Start.{State, start}
 use Rattle.run.specs.Scale.{phaseCount, scale}
 use Rattle.run.specs.Choice.{choose}
 use Rattle.run.specs.Phase.{Run, step, phaseFor, enough, phase, deltaAfter, after}
-use Rattle.run.specs.Rows.{steps, Fits, InOrder}
+use Rattle.run.specs.Rows.{steps, Fits, InPhase}
 use Rattle.run.specs.declared.Choice.the-variants.{Node, Nothing}
 use Rattle.run.proofs.Networks.{functionsOf, FactsOf, accepted-sound, no-minimums}
 use Rattle.run.proofs.Choices.{choose-chosen}
@@ -20,8 +20,8 @@ use Rattle.run.proofs.Courses.{trail-short}
 use Rattle.run.proofs.Whole.{total-bound, phases-bound, begin-facts, delta-positive, Course, course, course-facts}
 
 -- The facts put the rows in order.
-facts-in-order : (t : Table) → Accepted t → (delta : ℕ) (st : State) → Fits t st → FactsOf t delta st → InOrder t delta st
-facts-in-order t ok delta st fits facts =
+facts-in-phase : (t : Table) → Accepted t → (delta : ℕ) (st : State) → Fits t st → FactsOf t delta st → InPhase t delta st
+facts-in-phase t ok delta st fits facts =
     record {
       fits = fits;
       within = record { room = omega (arith, fits .flow); below = facts .pre .high };
@@ -60,9 +60,9 @@ module _ (t : Table) (ok : Accepted t) (d : ℕ) (l : d < phaseCount t) where
 
   module _ (now : Run) (size : ℕ) (moment : Moment t d now size) where
     -- At each moment the rows are in order.
-    pub moment-in-order : InOrder t (deltaAfter t d) (now .state)
-    moment-in-order =
-        facts-in-order t ok (deltaAfter t d) (now .state) (moment .trail .fits)
+    pub moment-in-phase : InPhase t (deltaAfter t d) (now .state)
+    moment-in-phase =
+        facts-in-phase t ok (deltaAfter t d) (now .state) (moment .trail .fits)
         (trail-facts t ok (deltaAfter t d) (after t d) (course-facts t ok d before) now size (moment .trail))
 
     -- A node is chosen: it is one of 1 to n,

@@ -13,11 +13,11 @@ use Rattle.run.specs.declared.Counts.{Counts}
 
 -- Demand 2: the flow is largest and the side the smallest least cut; the side is exactly what the source reaches over residual arcs;
 -- the value is the net flow out of s, and the capacity of the arcs from a marked to an unmarked node.
-pub record Best (t : Table) (flow side : List ℕ) (worth : ℕ) : Type 0 where
+pub record Best (t : Table) (flow side : List ℕ) (value : ℕ) : Type 0 where
   pub answer : Answer (networkOf t) (atPlace flow) (marked side)
   pub reached : Reached (networkOf t) (atPlace flow) (marked side)
-  pub net : Value (networkOf t) (atPlace flow) worth
-  pub cut : worth ≡ leaving (networkOf t) (marked side) (capacity t)
+  pub net : Value (networkOf t) (atPlace flow) value
+  pub cut : value ≡ leaving (networkOf t) (marked side) (capacity t)
 
 -- D and K for a largest excess x after the start: the least power of two not below x and one more than its exponent, or both 0.
 pub record Scaled (x D K : ℕ) : Type 0 where

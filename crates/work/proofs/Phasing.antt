@@ -10,10 +10,10 @@ use Rattle.run.specs.Start.{State, start}
 use Rattle.run.specs.Scale.{scaleOf, phaseCount}
 use Rattle.run.specs.Choice.{choose}
 use Rattle.run.specs.Phase.{Run, noSteps, step, phase, enough, deltaAfter, after, run}
-use Rattle.run.specs.Rows.{runOf, steps, InOrder}
+use Rattle.run.specs.Rows.{runOf, steps, InPhase}
 use Rattle.run.specs.declared.Choice.the-variants.{Node, Nothing}
 use Rattle.run.proofs.Whole.{delta-half}
-use Rattle.run.proofs.Moments.{Moment, moment-first, moment-in-order, moment-node, moment-step, moment-end, moment-few}
+use Rattle.run.proofs.Moments.{Moment, moment-first, moment-in-phase, moment-node, moment-step, moment-end, moment-few}
 use Rattle.work.specs.Held.{Between}
 
 -- The phase at Delta that began at `first` stands at `now`, `size` steps on.
@@ -41,10 +41,10 @@ module _ (t : Table) (ok : Accepted t) (delta : ℕ) (first : Run) where
 
   module _ (now : Run) (amid : Amid t delta first now) where
     -- The rows are in order,
-    pub amid-in-order : InOrder t delta (now .state)
-    amid-in-order =
-        subst⁻¹ (λ (x : ℕ). InOrder t x (now .state)) (amid .between .delta-is)
-        (moment-in-order t ok (amid .between .done) (amid .between .more) now (amid .size) (amid .moment))
+    pub amid-in-phase : InPhase t delta (now .state)
+    amid-in-phase =
+        subst⁻¹ (λ (x : ℕ). InPhase t x (now .state)) (amid .between .delta-is)
+        (moment-in-phase t ok (amid .between .done) (amid .between .more) now (amid .size) (amid .moment))
 
     -- and there are few steps so far.
     pub amid-few : steps (now .counts) < 2 ^ 32

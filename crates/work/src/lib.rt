@@ -17,7 +17,7 @@ ghost use Rattle.run.specs.Choice.{choose};
 ghost use Rattle.run.specs.Push.{firstEligible, saturates, push};
 ghost use Rattle.run.specs.Relabel.{newLabel};
 ghost use Rattle.run.specs.Phase.{step, phase, run};
-ghost use Rattle.run.specs.Rows.{steps, WithinCapacities, InOrder};
+ghost use Rattle.run.specs.Rows.{steps, WithinCapacities, InPhase};
 ghost use Rattle.steps.specs.Rows.{FoundIn};
 ghost use Rattle.lists.specs.Work.{startsAt, excessPart, labelsPart, listsPart, InWork, workNeed};
 ghost use Rattle.work.specs.Held.{stateIn, runIn, Between, Ran};
@@ -102,7 +102,7 @@ fn push_from(
     k: u32,
 ) -> bool
     requires { ⌜ ArcRows n (now tails) (now heads) (now capacities) × (startsAt n ≤ length (now work)) ⌝ }
-    requires { ⌜ InOrder (tableOf n s t (now tails) (now heads) (now capacities)) delta (stateIn n (now flow) (now work)) × Node n i × (k < length (now capacities)) ⌝ }
+    requires { ⌜ InPhase (tableOf n s t (now tails) (now heads) (now capacities)) delta (stateIn n (now flow) (now work)) × Node n i × (k < length (now capacities)) ⌝ }
     ensures { λ r. ⌜ stateIn n (now (flow .exit)) (now (work .exit)) ≡ push (tableOf n s t (now (tails .entry)) (now (heads .entry)) (now (capacities .entry))) delta (stateIn n (now (flow .entry)) (now (work .entry))) i k ⌝ }
     ensures { λ r. ⌜ r ≡ saturates (tableOf n s t (now (tails .entry)) (now (heads .entry)) (now (capacities .entry))) delta (stateIn n (now (flow .entry)) (now (work .entry))) i k ⌝ }
     ensures { λ r. ⌜ listsPart n (now (work .exit)) ≡ listsPart n (now (work .entry)) ⌝ }
@@ -149,7 +149,7 @@ fn step(
     counts: Counts,
 ) -> Counts
     requires { ⌜ ArcRows n (now tails) (now heads) (now capacities) × InWork (tableOf n s t (now tails) (now heads) (now capacities)) (now work) ⌝ }
-    requires { ⌜ InOrder (tableOf n s t (now tails) (now heads) (now capacities)) delta (stateIn n (now flow) (now work)) × Node n i × (steps counts < 2 ^ 63) ⌝ }
+    requires { ⌜ InPhase (tableOf n s t (now tails) (now heads) (now capacities)) delta (stateIn n (now flow) (now work)) × Node n i × (steps counts < 2 ^ 63) ⌝ }
     ensures { λ r. ⌜ runIn n (now (flow .exit)) (now (work .exit)) r ≡ step (tableOf n s t (now (tails .entry)) (now (heads .entry)) (now (capacities .entry))) delta (runIn n (now (flow .entry)) (now (work .entry)) counts) i ⌝ }
     ensures { λ r. ⌜ listsPart n (now (work .exit)) ≡ listsPart n (now (work .entry)) ⌝ }
 {

@@ -7,7 +7,7 @@ use Rattle.run.specs.declared.Choice.the-variants.{Node}
 use Rattle.lists.specs.Work.{listsPart, InWork}
 use Rattle.lists.proofs.Work.{in-work-kept}
 use Rattle.work.specs.Held.{runIn}
-use Rattle.work.proofs.Phasing.{Amid, left, amid-first, amid-in-order, amid-few, amid-node, amid-step, amid-less, amid-end}
+use Rattle.work.proofs.Phasing.{Amid, left, amid-first, amid-in-phase, amid-few, amid-node, amid-step, amid-less, amid-end}
 use lib.ListN.{length}
 use native.Mathlib.Omega.{arith}
 use borrow.Author.Needs.{needs}
@@ -87,7 +87,7 @@ step-requires c κs =
     let amid = m .loop .inv .0 in (
       (ok .rows, in-work m),
       (
-        amid-in-order (table m) ok (start .args .delta) (first m) (here m) amid,
+        amid-in-phase (table m) ok (start .args .delta) (first m) (here m) amid,
         amid-node (table m) ok (start .args .delta) (first m) (here m) amid (node told) (chosen told),
         omega (arith, amid-few (table m) ok (start .args .delta) (first m) (here m) amid),
       ),
