@@ -159,7 +159,7 @@ pub const CALLS: Calls = Calls {
     random: calls::random_call,
     brought: calls::brought,
     wanted: calls::wanted,
-    enough: ENOUGH,
+    enough: 20_000,
 };
 
 /// Reading and serving texts.
