@@ -1,7 +1,7 @@
 // Every refusal at its boundary, through the compiled planner: a line for each call of solving, then a line for each reading by place.
 // A line begins with the numbers of its call. The rows that a call of solving writes are filled with sevens beforehand.
-use planner::Answer;
 use planner::Reading;
+use solver::Answer;
 ghost use Prim.Native.Nat.{_+_, _^_, _≤_, _<_};
 
 // ---- lines

@@ -1,10 +1,10 @@
 // The front door's calls for a program in C or Rust to link, as the host's comparisons do: the planner's own, under names of their own.
 ghost use mathlib.Core.Path.{_≡_};
 ghost use Rattle.table.specs.Table.{tableOf};
-ghost use Rattle.planner.specs.Solving.{left, solving, Meets};
+ghost use Rattle.solver.specs.Solving.{left, solving, Meets};
 ghost use Rattle.planner.specs.Reading.{reading};
-use planner::Answer;
 use planner::Reading;
+use solver::Answer;
 
 // `planner::solve`.
 #[no_mangle]

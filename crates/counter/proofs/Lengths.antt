@@ -16,9 +16,9 @@ use Rattle.table.specs.Table.{Table, arcs}
 use Rattle.run.specs.Phase.{run}
 use Rattle.run.proofs.Whole.{run-fits}
 use Rattle.run.proofs.Answers.{run-best}
-use Rattle.side.specs.Side.{sideOf}
-use Rattle.planner.specs.Solving.{solution}
-use Rattle.planner.proofs.Solved.{solved-marks}
+use Rattle.reach.specs.Side.{sideOf}
+use Rattle.solver.specs.Solving.{solution}
+use Rattle.solver.proofs.Solved.{solved-marks}
 use Rattle.text.specs.declared.Given.{Given}
 use Rattle.text.specs.declared.Given.the-variants.{Read, Refusal}
 use Rattle.scan.specs.Parts.{lines}

@@ -11,8 +11,8 @@ use Rattle.text.specs.Lines.{problemFrom, problemOf, endFrom, endOf, arcFrom, a
 use Rattle.text.specs.Reading.{hasArcRoom, tableVerdict, givenAs, afterJudging, givenBy}
 use Rattle.run.specs.Phase.{run, value}
 use Rattle.run.specs.Scale.{phaseCount, scaleOf}
-use Rattle.side.specs.Side.{sideFrom}
-use Rattle.planner.specs.Solving.{answerWith}
+use Rattle.reach.specs.Side.{sideFrom}
+use Rattle.solver.specs.Solving.{answerWith}
 use Rattle.report.specs.Printed.{digitsOf, spaced, markedNodes, numberLines, solvedText, nameText, refusedText}
 use Rattle.counter.specs.Desk.{tableText, answerText, deskText}
 

@@ -12,14 +12,14 @@ use Rattle.table.specs.Table.{Table, arcs}
 use Rattle.table.specs.Checks.{isFine, checkOf}
 use Rattle.table.specs.Accepted.{Accepted}
 use Rattle.table.proofs.Accepts.{check-accepts}
-use Rattle.planner.proofs.Solved.{fine-solving, solved-flows, solved-marks, solving-meets}
+use Rattle.solver.proofs.Solved.{fine-solving, solved-flows, solved-marks, solving-meets}
 use Rattle.scan.specs.Parts.{lines}
 use Rattle.text.specs.Reading.{tableIn, givenBy}
 use Rattle.text.proofs.Accepting.{read-accepts}
 use Rattle.counter.specs.Desk.{summaryOf, tableText}
-use Rattle.planner.specs.declared.Answer.{Answer}
-use Rattle.lists.specs.Work.{workNeed}
-use Rattle.planner.specs.Solving.{Left, left, hasRoom, answerWith, solved, solvingVerdict, solving, Meets}
+use Rattle.solver.specs.declared.Answer.{Answer}
+use Rattle.arcs.specs.Work.{workNeed}
+use Rattle.solver.specs.Solving.{Left, left, hasRoom, answerWith, solved, solvingVerdict, solving, Meets}
 use Rattle.text.specs.declared.Given.the-variants.{Read}
 use Rattle.report.specs.Printed.{solvedText}
 

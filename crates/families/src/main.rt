@@ -1,5 +1,5 @@
 // Seeded tables at size, through the compiled planner: the nine families of docs/FAMILIES.md, a line for each.
-use planner::Answer;
+use solver::Answer;
 use table::Arc;
 ghost use Prim.Native.Nat.{_≤_, _<_};
 ghost use Rattle.families.specs.Sizes.{Nodes, Sizes, Room};

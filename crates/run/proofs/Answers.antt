@@ -9,8 +9,8 @@ use Rattle.network.proofs.Cuts.{no-minimums-enter}
 use Rattle.network.proofs.Facts.{answer-at-end}
 use Rattle.table.specs.Table.{Table, networkOf}
 use Rattle.table.specs.Accepted.{Accepted}
-use Rattle.side.specs.Side.{marked, sideOf}
-use Rattle.side.proofs.Side.{side-reached}
+use Rattle.reach.specs.Side.{marked, sideOf}
+use Rattle.reach.proofs.Side.{side-reached}
 use Rattle.run.specs.Phase.{run, value}
 use Rattle.run.specs.Demands.{Best}
 use Rattle.run.proofs.Networks.{functionsOf, accepted-sound, no-minimums}

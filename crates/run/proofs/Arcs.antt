@@ -15,14 +15,14 @@ use Rattle.network.specs.Network.{nearEnd, farEnd, residualOver}
 use Rattle.network.proofs.Notions.{Sound, ResidualFrom, far-end-node}
 use Rattle.network.proofs.Steps.{Eligible, NewLabel}
 use Rattle.table.specs.Table.{Table, arcs, tail, head, networkOf}
-use Rattle.run.specs.Residual.{way, far, residual, touches, list}
+use Rattle.arcs.specs.Residual.{way, far, residual, touches, list}
 use Rattle.run.specs.Start.{State}
 use Rattle.run.specs.Push.{eligible, firstEligible}
 use Rattle.run.specs.Relabel.{lesser, leastFar, top, newLabel}
 use Rattle.run.specs.declared.Found.{Found}
 use Rattle.run.specs.declared.Found.the-variants.{Place, Missing}
 use Rattle.run.proofs.Networks.{functionsOf, by-cond}
-use Rattle.run.proofs.Members.{list-touches, touches-list}
+use Rattle.arcs.proofs.Members.{list-touches, touches-list, start-way, start-touches, member-start}
 
 module _ (t : Table) (st : State) (i : ℕ) where
   -- What a search of the list l answers: an eligible member, or that there is none.
@@ -128,31 +128,6 @@ module _ (t : Table) (st : State) (i : ℕ) where
       (λ later. inr (at-far-end-on k (leastFar t st i l (lesser t st i k best)) l later))
       (least-is l (lesser t st i k best))
 
--- An arc that touches node i is taken from i.
-way-start : (t : Table) (i k : ℕ) → touches t i k ≡ true → nearEnd (networkOf t) k (way t i k) ≡ i
-way-start t i k e =
-    by-test (way t i k)
-    (λ p. ap (nearEnd (networkOf t) k) p ∙ eqb-true (tail t k) i p)
-    (λ p. ap (nearEnd (networkOf t) k) p ∙ eqb-true (head t k) i (ap (λ b. b || eqb (head t k) i) (sym p) ∙ e))
-
--- What is taken from i is taken in this way,
-start-way : (t : Table) → Sound (networkOf t) → (i k : ℕ) (b : Bool) → k < arcs t → nearEnd (networkOf t) k b ≡ i → way t i k ≡ b
-start-way t sound i k true l e = eq-eqb (tail t k) i e
-start-way t sound i k false l e = ne-eqb (tail t k) i (λ p. sound .loopless k l (p ∙ sym e))
-
--- and touches i.
-start-touches : (t : Table) (i k : ℕ) (b : Bool) → nearEnd (networkOf t) k b ≡ i → touches t i k ≡ true
-start-touches t i k true e = ap (λ x. x || eqb (head t k) i) (eq-eqb (tail t k) i e)
-start-touches t i k false e = ap (λ x. way t i k || x) (eq-eqb (head t k) i e) ∙ or-true (way t i k)
-  where
-    or-true : (b : Bool) → b || true ≡ true
-    or-true true = refl
-    or-true false = refl
-
--- A member of node i's list is taken from i.
-pub member-start : (t : Table) (i : ℕ) {k : ℕ} → List·Memᴰ k (list t i) → nearEnd (networkOf t) k (way t i k) ≡ i
-member-start t i {k} member = way-start t i k (list-touches t i member .1)
-
 module _ (t : Table) (sound : Sound (networkOf t)) (st : State) (i : ℕ) where
   -- The arc found is the theory's: with residual above 0 and a far end exactly one lower.
   pub eligible-arc : (k : ℕ) → List·Memᴰ k (list t i) → eligible t st i k ≡ true → Eligible (networkOf t) (functionsOf st) k (way t i k)
@@ -176,7 +151,7 @@ module _ (t : Table) (sound : Sound (networkOf t)) (st : State) (i : ℕ) where
 
     -- and is taken there in the same way.
     same-way : way t i k ≡ b
-    same-way = start-way t sound i k b l e
+    same-way = start-way t i k b (sound .loopless k l) e
 
     -- One with residual that goes down by one from i is eligible.
     arc-eligible : 0 < residualOver (networkOf t) (atPlace (st .flow)) k b → atNode (st .label) i ≡ atNode (st .label) (farEnd (networkOf t) k b) + 1

@@ -15,14 +15,13 @@ use Rattle.network.proofs.Notions.{Sound, far-end-node, ends-differ}
 use Rattle.network.proofs.Steps.{taken, brought}
 use Rattle.network.proofs.Steps.{State as Functions, moved as changed, push as pushed, relabel as relabelled, amount as moves}
 use Rattle.table.specs.Table.{Table, arcs, networkOf}
-use Rattle.run.specs.Residual.{way, far, list}
+use Rattle.arcs.specs.Residual.{way, far, list}
 use Rattle.run.specs.Start.{State}
 use Rattle.run.specs.Push.{amount, moved, along, push}
 use Rattle.run.specs.Relabel.{newLabel, relabel}
 use Rattle.run.specs.Rows.{Fits}
 use Rattle.run.proofs.Networks.{functionsOf, by-cond}
-use Rattle.run.proofs.Members.{list-touches}
-use Rattle.run.proofs.Arcs.{member-start}
+use Rattle.arcs.proofs.Members.{list-touches, member-start}
 
 -- States of functions are equal where their parts are.
 functions-equal : {f g e d l k : ℕ → ℕ} → f ≡ g → e ≡ d → l ≡ k

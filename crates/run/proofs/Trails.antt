@@ -14,7 +14,7 @@ use Rattle.network.proofs.Bounds.{steps-hold}
 use Rattle.table.specs.Table.{Table, networkOf}
 use Rattle.table.specs.Accepted.{Accepted}
 use Rattle.run.specs.declared.Counts.{Counts}
-use Rattle.run.specs.Residual.{way, list}
+use Rattle.arcs.specs.Residual.{way, list}
 use Rattle.run.specs.Choice.{choose}
 use Rattle.run.specs.Push.{firstEligible, amount, saturates, push}
 use Rattle.run.specs.Relabel.{newLabel}
@@ -23,9 +23,10 @@ use Rattle.run.specs.Rows.{Fits}
 use Rattle.run.specs.declared.Choice.the-variants.{Node}
 use Rattle.run.specs.declared.Found.{Found}
 use Rattle.run.specs.declared.Found.the-variants.{Place, Missing}
+use Rattle.arcs.proofs.Members.{member-start}
 use Rattle.run.proofs.Networks.{functionsOf, FactsOf, accepted-sound, no-minimums}
 use Rattle.run.proofs.Choices.{choose-chosen}
-use Rattle.run.proofs.Arcs.{found-place, member-start, eligible-arc, least-new-label}
+use Rattle.run.proofs.Arcs.{found-place, eligible-arc, least-new-label}
 use Rattle.run.proofs.Pushes.{amount-same, push-same, push-fits, relabel-same, relabel-fits}
 
 -- Counts went from one to the other by a saturating and c nonsaturating pushes and l relabels.

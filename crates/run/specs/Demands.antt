@@ -5,7 +5,7 @@ use mathlib.Core.List.{List}
 use Rattle.rows.specs.Row.{atPlace}
 use Rattle.network.specs.Network.{Value, leaving, Reached, Answer}
 use Rattle.table.specs.Table.{Table, arcs, capacity, networkOf}
-use Rattle.side.specs.Side.{marked}
+use Rattle.reach.specs.Side.{marked}
 use Rattle.run.specs.Start.{start}
 use Rattle.run.specs.Scale.{largest}
 use Rattle.run.specs.Phase.{after}

@@ -5,7 +5,7 @@ use mathlib.Core.List.{List}
 use Rattle.rows.specs.Row.{atPlace}
 use Rattle.network.specs.Network.{inflow, outflow}
 use Rattle.table.specs.Table.{Table, arcs, networkOf}
-use Rattle.run.specs.Residual.{list}
+use Rattle.arcs.specs.Residual.{list}
 use Rattle.run.specs.Start.{State, start}
 use Rattle.run.specs.Scale.{scaleOf, phaseCount}
 use Rattle.run.specs.Choice.{choose}

@@ -7,7 +7,7 @@ use lib.ListN.{set}
 use Rattle.rows.specs.Row.{atPlace, atNode}
 use Rattle.network.specs.Network.{isInner}
 use Rattle.table.specs.Table.{Table, networkOf}
-use Rattle.run.specs.Residual.{way, far, residual}
+use Rattle.arcs.specs.Residual.{way, far, residual}
 use Rattle.run.specs.Start.{State}
 use Rattle.run.specs.declared.Found.{Found}
 use Rattle.run.specs.declared.Found.the-variants.{Place, Missing}

@@ -6,7 +6,7 @@ use lib.Dec.{ltb}
 use lib.ListN.{set}
 use Rattle.rows.specs.Row.{atNode}
 use Rattle.table.specs.Table.{Table}
-use Rattle.run.specs.Residual.{far, residual, list}
+use Rattle.arcs.specs.Residual.{far, residual, list}
 use Rattle.run.specs.Start.{State}
 
 -- The lesser of `best` and the label at the far end of the arc at place k, if it has residual above 0 away from i.

@@ -15,7 +15,7 @@ use Rattle.rows.proofs.Rows.{total-two}
 use Rattle.run.proofs.Networks.{inner-other}
 use Rattle.table.specs.Table.{Table, tableOf, networkOf}
 use Rattle.table.specs.Accepted.{ArcRows}
-use Rattle.run.specs.Residual.{far, residual}
+use Rattle.arcs.specs.Residual.{far, residual}
 use Rattle.run.specs.Start.{State}
 use Rattle.run.specs.Push.{amount, along, moved, push}
 use Rattle.run.specs.Rows.{stateOf, WithinCapacities}

@@ -13,7 +13,7 @@ use Rattle.rows.specs.Row.{Node, atPlace, atNode}
 use Rattle.network.specs.Network.{farEnd}
 use Rattle.table.specs.Table.{Table, tableOf, networkOf, tail, head}
 use Rattle.table.specs.Accepted.{ArcRows}
-use Rattle.run.specs.Residual.{way, far, residual}
+use Rattle.arcs.specs.Residual.{way, far, residual}
 use Rattle.run.specs.Start.{State}
 use Rattle.run.specs.Push.{eligible, firstEligible}
 use Rattle.run.specs.Relabel.{lesser, leastFar}

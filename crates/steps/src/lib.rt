@@ -9,12 +9,12 @@ ghost use lib.ListN.{length};
 ghost use Rattle.rows.specs.Row.{Node, atPlace, atNode};
 ghost use Rattle.table.specs.Table.{tableOf};
 ghost use Rattle.table.specs.Accepted.{ArcRows};
-ghost use Rattle.run.specs.Residual.{far, residual};
+ghost use Rattle.arcs.specs.Residual.{far, residual, Places};
 ghost use Rattle.run.specs.Choice.{lower, chooseTo};
 ghost use Rattle.run.specs.Push.{eligible, firstEligible, amount, along, moved};
 ghost use Rattle.run.specs.Relabel.{lesser, leastFar};
 ghost use Rattle.run.specs.Phase.{onePush, oneRelabel};
-ghost use Rattle.run.specs.Rows.{stateOf, steps, AtMost, Places, WithinCapacities};
+ghost use Rattle.run.specs.Rows.{stateOf, steps, AtMost, WithinCapacities};
 ghost use Rattle.rows.specs.Sum.{total};
 ghost use Rattle.steps.specs.Rows.{Chosen, FoundIn, Pushed};
 

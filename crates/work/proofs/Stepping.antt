@@ -1,14 +1,13 @@
 -- Laws of a step over the work row: what its parts leave is a step of the definitions.
 use Prim.Native.Nat.{ℕ, _+_, _-_, _*_, _≤_}
 use native.Mathlib.Omega.{arith}
-use mathlib.Core.Path.{_≡_, ap, sym, _∙_}
+use mathlib.Core.Path.{_≡_, ap, _∙_}
 use mathlib.Core.Bool.{Bool}
 use mathlib.Core.List.{List, _++_, append-nil}
-use lib.ListN.{length, set, drop, replicate, drop-of-length-le}
-use lib.Seq.{drop-drop}
-use Rattle.rows.specs.Row.{byNode, cleared}
+use lib.ListN.{length, set, drop, drop-of-length-le}
+use Rattle.rows.specs.Row.{byNode}
 use Rattle.table.specs.Table.{Table, tableOf, arcs}
-use Rattle.run.specs.Residual.{list}
+use Rattle.arcs.specs.Residual.{list}
 use Rattle.run.specs.Start.{State, startFlow, startLabelAt, start}
 use Rattle.run.specs.Choice.{chooseTo, choose}
 use Rattle.run.specs.Push.{firstEligible, saturates, push}
@@ -19,7 +18,6 @@ use Rattle.run.specs.declared.Choice.{Choice}
 use Rattle.run.specs.declared.Counts.{Counts}
 use Rattle.run.specs.declared.Found.the-variants.{Place, Missing}
 use Rattle.steps.specs.Rows.{Pushed}
-use Rattle.lists.specs.Work.{startsAt, workEnd, listsPart, ElseSame, workNeed}
 
 -- States whose rows are equal are equal.
 pub same-state : {flow flow′ excess excess′ label label′ : List ℕ} → flow ≡ flow′ → excess ≡ excess′ → label ≡ label′
@@ -68,18 +66,3 @@ unfolding start
 start-is t before flow excess label long flow-is excess-is label-is =
     let past : length before ≤ arcs t = omega arith in
     same-state (flow-is ∙ rw (drop-of-length-le before past, append-nil)) excess-is label-is
-
--- With its numbers cleared the work row is as it was behind them, though lists were filled in and a run was made.
-pub cleared-is : (n m need : ℕ) → need ≡ workNeed n m → (before filled after : List ℕ) → ElseSame n m before filled → listsPart n after ≡ listsPart n filled
-    → replicate need 0 ++ drop need after ≡ cleared (workNeed n m) before
-cleared-is n m need e before filled after else lists =
-    let far : startsAt n + (workNeed n m - startsAt n) ≡ workNeed n m = omega arith in
-    let end : workEnd n m ≡ workNeed n m = omega arith in
-    let rest : drop (workNeed n m) after ≡ drop (workNeed n m) before =
-    ap (λ (j : ℕ). drop j after) (sym far)
-    ∙ sym (drop-drop (workNeed n m - startsAt n) (startsAt n) after)
-    ∙ ap (drop (workNeed n m - startsAt n)) lists
-    ∙ drop-drop (workNeed n m - startsAt n) (startsAt n) filled
-    ∙ ap (λ (j : ℕ). drop j filled) far
-    ∙ (rw end at (else .back)) in
-    rw (e, rest)

@@ -2,15 +2,14 @@
 use Prim.Native.Nat.{ℕ, _<_}
 use mathlib.Core.Path.{_≡_}
 use mathlib.Core.List.{List}
-use Rattle.table.specs.Table.{Table, arcs}
+use Rattle.table.specs.Table.{Table}
 use Rattle.run.specs.Start.{State}
 use Rattle.run.specs.Scale.{phaseCount, scale}
 use Rattle.run.specs.Phase.{Run, deltaAfter, after, run}
 use Rattle.run.specs.Rows.{stateOf, runOf}
 use Rattle.run.specs.declared.Counts.{Counts}
 use Rattle.run.specs.declared.Outcome.{Outcome}
-use Rattle.rows.specs.Row.{cleared}
-use Rattle.lists.specs.Work.{excessPart, labelsPart, workNeed}
+use Rattle.arcs.specs.Work.{excessPart, labelsPart, listsPart}
 
 -- The state of n nodes that a flow row and a work row hold.
 abbrev pub stateIn : (n : ℕ) (flow work : List ℕ) → State
@@ -27,10 +26,10 @@ pub record Between (t : Table) (delta : ℕ) (now : Run) : Type 0 where
   pub delta-is : delta ≡ deltaAfter t done
   pub run-is : now ≡ after t done
 
--- What the run of an accepted table leaves: its flow, counts, K and D, and a cleared work row.
+-- What the run of an accepted table leaves: its flow, counts, K and D; the lists stand in the work row as they did.
 pub record Ran (t : Table) (work : List ℕ) (outcome : Outcome) (flow-left work-left : List ℕ) : Type 0 where
   pub flow-is : flow-left ≡ run t .state .flow
   pub counts-are : outcome .counts ≡ run t .counts
   pub phases-are : outcome .phases ≡ phaseCount t
   pub scale-is : outcome .scale ≡ scale t
-  pub work-is : work-left ≡ cleared (workNeed (t .nodes) (arcs t)) work
+  pub lists-stay : listsPart (t .nodes) work-left ≡ listsPart (t .nodes) work

@@ -10,16 +10,16 @@ ghost use lib.ListN.{length, set};
 ghost use Rattle.rows.specs.Row.{Node};
 ghost use Rattle.table.specs.Table.{tableOf};
 ghost use Rattle.table.specs.Accepted.{Accepted, ArcRows};
-ghost use Rattle.run.specs.Residual.{list};
+ghost use Rattle.arcs.specs.Residual.{list};
 ghost use Rattle.run.specs.Start.{start};
-ghost use Rattle.run.specs.Scale.{largest, phasesFor, phaseCount, scale};
+ghost use Rattle.run.specs.Scale.{largest, phasesFor, phaseCount};
 ghost use Rattle.run.specs.Choice.{choose};
 ghost use Rattle.run.specs.Push.{firstEligible, saturates, push};
 ghost use Rattle.run.specs.Relabel.{newLabel};
 ghost use Rattle.run.specs.Phase.{step, phase, run};
 ghost use Rattle.run.specs.Rows.{steps, WithinCapacities, InPhase};
 ghost use Rattle.steps.specs.Rows.{FoundIn};
-ghost use Rattle.lists.specs.Work.{startsAt, excessPart, labelsPart, listsPart, InWork, workNeed};
+ghost use Rattle.arcs.specs.Work.{startsAt, excessPart, labelsPart, listsPart, InWork, workNeed};
 ghost use Rattle.work.specs.Held.{stateIn, runIn, Between, Ran};
 
 // The choice of a step, among the nodes whose excesses and labels the work row holds.
@@ -55,7 +55,7 @@ fn search_list(
         capacities,
         flow,
         &work[nodes..end],
-        lists::node_list(work, n, capacities.len(), i),
+        arcs::node_list(work, n, capacities.len(), i),
         i,
     )
 }
@@ -82,7 +82,7 @@ fn label_from_list(
         capacities,
         flow,
         &work[nodes..end],
-        lists::node_list(work, n, capacities.len(), i),
+        arcs::node_list(work, n, capacities.len(), i),
         i,
     )
 }
@@ -270,33 +270,6 @@ fn count_phases(n: u32, work: &[u32]) -> u32
     start::phase_count(start::largest(&work[0..nodes]))
 }
 
-// The whole run of an accepted table whose lists the work row holds: the start, then the phases.
-fn run_filled(
-    n: u32,
-    s: u32,
-    t: u32,
-    tails: &[u32],
-    heads: &[u32],
-    capacities: &[u32],
-    flow: &mut [u32],
-    work: &mut [u32],
-) -> Outcome
-    requires { ⌜ Accepted (tableOf n s t (now tails) (now heads) (now capacities)) × InWork (tableOf n s t (now tails) (now heads) (now capacities)) (now work) × (length (now flow) ≡ length (now capacities)) ⌝ }
-    ensures { λ r. ⌜ runIn n (now (flow .exit)) (now (work .exit)) (r .counts) ≡ run (tableOf n s t (now (tails .entry)) (now (heads .entry)) (now (capacities .entry))) ⌝ }
-    ensures { λ r. ⌜ (r .phases ≡ phaseCount (tableOf n s t (now (tails .entry)) (now (heads .entry)) (now (capacities .entry)))) × (r .scale ≡ scale (tableOf n s t (now (tails .entry)) (now (heads .entry)) (now (capacities .entry)))) ⌝ }
-    ensures { λ r. ⌜ listsPart n (now (work .exit)) ≡ listsPart n (now (work .entry)) ⌝ }
-{
-    begin(n, s, t, tails, heads, capacities, flow, work);
-    let count = count_phases(n, work);
-    let d = start::scale(count);
-    let taken = phases(n, s, t, tails, heads, capacities, flow, work, count);
-    Outcome {
-        counts: taken,
-        phases: count,
-        scale: d,
-    }
-}
-
 // How many numbers the work row needs.
 pub fn work_need(n: u32, m: usize) -> usize
     requires { ⌜ m < 2 ^ 61 ⌝ }
@@ -305,7 +278,7 @@ pub fn work_need(n: u32, m: usize) -> usize
     4 * (n as usize) + 2 * m + 1
 }
 
-// The run of an accepted table: fills the nodes' lists into the work row, runs, and clears the row. The flow row has just its m places.
+// The run of an accepted table whose lists stand in the work row, and stay there: the start, then the phases. The flow row has just its m places.
 pub fn run(
     n: u32,
     s: u32,
@@ -316,12 +289,16 @@ pub fn run(
     flow: &mut [u32],
     work: &mut [u32],
 ) -> Outcome
-    requires { ⌜ Accepted (tableOf n s t (now tails) (now heads) (now capacities)) ⌝ }
-    requires { ⌜ (length (now flow) ≡ length (now capacities)) × (workNeed n (length (now capacities)) ≤ length (now work)) ⌝ }
+    requires { ⌜ Accepted (tableOf n s t (now tails) (now heads) (now capacities)) × InWork (tableOf n s t (now tails) (now heads) (now capacities)) (now work) × (length (now flow) ≡ length (now capacities)) ⌝ }
     ensures { λ r. ⌜ Ran (tableOf n s t (now (tails .entry)) (now (heads .entry)) (now (capacities .entry))) (now (work .entry)) r (now (flow .exit)) (now (work .exit)) ⌝ }
 {
-    lists::fill_work(n, tails, heads, work);
-    let outcome = run_filled(n, s, t, tails, heads, capacities, flow, work);
-    rows::clear(work, work_need(n, capacities.len()));
-    outcome
+    begin(n, s, t, tails, heads, capacities, flow, work);
+    let count = count_phases(n, work);
+    let d = start::scale(count);
+    let taken = phases(n, s, t, tails, heads, capacities, flow, work, count);
+    Outcome {
+        counts: taken,
+        phases: count,
+        scale: d,
+    }
 }

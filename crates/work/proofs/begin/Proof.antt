@@ -6,8 +6,8 @@ use Rattle.table.specs.Accepted.{ArcRows}
 use Rattle.run.specs.Start.{startLabelAt}
 use Rattle.run.specs.Start.{start as begun}
 use Rattle.rows.specs.Row.{byNode}
-use Rattle.lists.specs.Work.{startsAt, labelsPart}
-use Rattle.lists.proofs.Work.{length-excess, length-labels, excess-length, both-excess, both-labels, both-lists}
+use Rattle.arcs.specs.Work.{startsAt, labelsPart}
+use Rattle.arcs.proofs.Work.{length-excess, length-labels, excess-length, both-excess, both-labels, both-lists}
 use Rattle.work.proofs.Stepping.{same-state, start-is}
 use lib.ListN.{length}
 use native.Mathlib.Omega.{arith}

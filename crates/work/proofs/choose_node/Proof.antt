@@ -1,8 +1,8 @@
 -- `choose_node` meets its contract: the two parts have a number for each node.
 use Rattle.table.specs.Table.{tableOf}
-use Rattle.lists.specs.Work.{excessPart, labelsPart}
+use Rattle.arcs.specs.Work.{excessPart, labelsPart}
 use Rattle.run.specs.Rows.{stateOf}
-use Rattle.lists.proofs.Work.{length-excess, length-labels}
+use Rattle.arcs.proofs.Work.{length-excess, length-labels}
 use Rattle.work.proofs.Stepping.{choice-is}
 use native.Mathlib.Omega.{arith}
 use mathlib.Core.Path.{sym, _∙_}

@@ -2,10 +2,10 @@
 use Prim.Native.Nat.{ℕ}
 use Rattle.table.specs.Table.{tableOf}
 use Rattle.table.specs.Accepted.{ArcRows}
-use Rattle.run.specs.Rows.{Places}
-use Rattle.run.proofs.Members.{list-places}
-use Rattle.lists.specs.Work.{excessPart}
-use Rattle.lists.proofs.Work.{length-labels}
+use Rattle.arcs.specs.Residual.{Places}
+use Rattle.arcs.proofs.Members.{list-places}
+use Rattle.arcs.specs.Work.{excessPart}
+use Rattle.arcs.proofs.Work.{length-labels}
 use Rattle.work.specs.Held.{stateIn}
 use Rattle.work.proofs.Stepping.{label-is}
 use lib.ListN.{length}

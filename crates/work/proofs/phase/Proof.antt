@@ -4,8 +4,8 @@ use Rattle.table.specs.Table.{Table, tableOf}
 use Rattle.run.specs.Choice.{choose}
 use Rattle.run.specs.Phase.{Run, step}
 use Rattle.run.specs.declared.Choice.the-variants.{Node}
-use Rattle.lists.specs.Work.{listsPart, InWork}
-use Rattle.lists.proofs.Work.{in-work-kept}
+use Rattle.arcs.specs.Work.{listsPart, InWork}
+use Rattle.arcs.proofs.Work.{in-work-kept}
 use Rattle.work.specs.Held.{runIn}
 use Rattle.work.proofs.Phasing.{Amid, left, amid-first, amid-in-phase, amid-few, amid-node, amid-step, amid-less, amid-end}
 use lib.ListN.{length}

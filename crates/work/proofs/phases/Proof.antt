@@ -4,8 +4,8 @@ use Rattle.table.specs.Table.{Table, tableOf}
 use Rattle.run.specs.Scale.{phaseCount}
 use Rattle.run.specs.Phase.{deltaAfter, after}
 use Rattle.run.proofs.Whole.{phases-bound}
-use Rattle.lists.specs.Work.{listsPart}
-use Rattle.lists.proofs.Work.{in-work-kept}
+use Rattle.arcs.specs.Work.{listsPart}
+use Rattle.arcs.proofs.Work.{in-work-kept}
 use Rattle.work.specs.Held.{runIn}
 use Rattle.work.proofs.Phasing.{first-delta, first-run, next-delta, next-run, whole-run}
 use lib.ListN.{length}

@@ -2,8 +2,8 @@
 use Prim.Native.Nat.{ℕ}
 use Rattle.rows.specs.Row.{Node}
 use Rattle.table.specs.Accepted.{ArcRows}
-use Rattle.lists.specs.Work.{labelsPart}
-use Rattle.lists.proofs.Work.{length-excess, excess-excess, excess-labels, excess-lists}
+use Rattle.arcs.specs.Work.{labelsPart}
+use Rattle.arcs.proofs.Work.{length-excess, excess-excess, excess-labels, excess-lists}
 use Rattle.work.proofs.Stepping.{same-state, pushed-state}
 use mathlib.Core.Path.{refl, _∙_, subst⁻¹}
 use borrow.Author.Needs.{needs}

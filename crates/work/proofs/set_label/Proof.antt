@@ -1,6 +1,6 @@
 -- `set_label` meets its contract: the labels part is lent, and comes back with one store.
 use Rattle.rows.specs.Row.{Node}
-use Rattle.lists.proofs.Work.{length-labels, labels-excess, labels-labels, labels-lists}
+use Rattle.arcs.proofs.Work.{length-labels, labels-excess, labels-labels, labels-lists}
 use Prim.Native.Nat.{ℕ}
 use mathlib.Core.Path.{_∙_, subst⁻¹}
 use borrow.Author.Needs.{needs}
