@@ -1,4 +1,4 @@
-// Every refusal at its boundary, through the compiled planner: a line for each call of solving, then a line for each reading by place.
+// Each refusal of solving and of reading by place at its boundary, through the compiled planner: a line for each call of solving, then a line for each reading by place.
 // A line begins with the numbers of its call. The rows that a call of solving writes are filled with sevens beforehand.
 use planner::Reading;
 use solver::Answer;

@@ -11,11 +11,11 @@ use lib.Dec.{ltb, eqb}
 use lib.ListN.{length, getD, drop, length-append, length-take}
 use borrow.Author.Tests.{lt-ltb, le-ltb}
 use Rattle.table.specs.declared.Name.{Name}
-use Rattle.table.specs.declared.Name.the-variants.{Nodes, Rows, Arcs, Ends, Room, Node, Loop, Capacity, Stale, Unordered, Ahead, Place, Line, Count, Long}
+use Rattle.table.specs.declared.Name.the-variants.{Long}
+use Rattle.table.proofs.Numbers.{name-short}
 use Rattle.table.specs.Table.{Table, arcs}
 use Rattle.run.specs.Phase.{run}
-use Rattle.run.proofs.Whole.{run-fits}
-use Rattle.run.proofs.Answers.{run-best}
+use Rattle.run.proofs.Answers.{run-best, run-fits}
 use Rattle.reach.specs.Side.{sideOf}
 use Rattle.solver.specs.Solving.{solution}
 use Rattle.solver.proofs.Solved.{solved-marks}
@@ -25,33 +25,13 @@ use Rattle.scan.specs.Parts.{lines}
 use Rattle.text.specs.Reading.{tableIn, givenBy}
 use Rattle.text.proofs.Accepting.{read-accepts}
 use Rattle.report.specs.declared.Summary.{Summary}
-use Rattle.report.specs.Printed.{digitsOf, further, spaced, markedNodes, numberLines, solvedText, nameText, refusedText}
+use Rattle.pen.specs.Printed.{digitsOf, further, spaced}
+use Rattle.pen.proofs.Digits.{digits-most, digits-below}
+use Rattle.report.specs.Printed.{markedNodes, numberLines, solvedText, refusedText}
 use Rattle.counter.specs.Desk.{summaryOf, tableText, answerText, deskText}
 use Rattle.counter.proofs.Solves.{Passes, accepted, few-nodes, few-arcs}
 
 -- ---- numbers
-
--- One digit, or the digits before the last and the last.
-digits-by : (small : Bool) (most : ℕ) (one : ℕ) (more : List ℕ) (last : ℕ) → length more ≤ most → length (cond small (one ∷ []) (more ++ (last ∷ []))) ≤ suc most
-digits-by true most one more last h = omega arith
-digits-by false most one more last h = rw length-append (omega arith)
-
--- A number has at most as many digits as its bound says.
-digits-most : (most n : ℕ) → length (digitsOf most n) ≤ most
-unfolding digitsOf
-digits-most zero n = omega arith
-digits-most (suc most) n = digits-by (ltb n 10) most (48 + n) (digitsOf most (n / 10)) (48 + n % 10) (digits-most most (n / 10))
-
--- A number below 10 to the k has at most k digits.
-digits-below : (most n k : ℕ) → n < 10 ^ suc k → Dec (n < 10) → length (digitsOf most n) ≤ suc k
-unfolding digitsOf
-digits-below zero n k h d = omega arith
-digits-below (suc most) n k h (yes small) = rw (lt-ltb n 10 small) (omega arith)
-digits-below (suc most) n zero h (no large) = absurd (large h)
-digits-below (suc most) n (suc k) h (no large) =
-    let p : 10 ^ suc (suc k) ≡ 10 ^ suc k * 10 = pow-suc 10 (suc k) in
-    let more = digits-below most (n / 10) k (omega arith) (decLt (n / 10) 10) in
-    rw (le-ltb n 10 (omega arith), length-append) (omega arith)
 
 -- A number that follows another has a blank before its digits.
 further-length : (some : Bool) (n k : ℕ) → n < 10 ^ suc k → length (further some n) ≤ suc (suc k)
@@ -113,29 +93,10 @@ solved-length r side flow few-nodes few-arcs small =
     simp length-append
     (omega (arith, lines-length r, marks-length side 1 false (omega arith), flows-length false flow small))
 
--- The longest name is UNORDERED.
-name-length : (name : Name) → length (nameText name) ≤ 9
-unfolding nameText
-name-length Nodes = omega arith
-name-length Rows = omega arith
-name-length Arcs = omega arith
-name-length Ends = omega arith
-name-length Room = omega arith
-name-length Node = omega arith
-name-length Loop = omega arith
-name-length Capacity = omega arith
-name-length Stale = omega arith
-name-length Unordered = omega arith
-name-length Ahead = omega arith
-name-length Place = omega arith
-name-length Line = omega arith
-name-length Count = omega arith
-name-length Long = omega arith
-
 -- The two lines of a refusal.
 refused-length : (name : Name) (place : ℕ) → length (refusedText name place) ≤ 35060
 unfolding refusedText
-refused-length name place = simp length-append (omega (arith, name-length name, digits-most 20 place))
+refused-length name place = simp length-append (omega (arith, name-short name, digits-most 20 place))
 
 -- A solved table: no flow is above its capacity.
 table-length : (t : Table) → Passes t → length (tableText t) ≤ 35060

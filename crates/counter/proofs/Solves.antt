@@ -57,7 +57,7 @@ module _ (t : Table) (ok : Passes t) where
     -- It is solved.
     is-solved : solving t 0 flow side work ≡ solved t 0 flow side work
     is-solved =
-        let fine : Fine ≡ solvingVerdict t flow side work = sym (fine-is (solvingVerdict t flow side work) (rw room ok)) in
+        let fine : Fine ≡ solvingVerdict t (length flow) (length side) (length work) = sym (fine-is (solvingVerdict t (length flow) (length side) (length work)) (rw room ok)) in
         sym (fine-solving t 0 flow side work Fine fine refl (solved t 0 flow side work) refl)
 
     -- Nothing is refused.

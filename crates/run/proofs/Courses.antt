@@ -22,7 +22,7 @@ pub record Led (t : Table) (delta : ℕ) (from to : Run) (least : ℕ) : Type 0 
 
 module _ (t : Table) (ok : Accepted t) (delta : ℕ) (from : Run) (facts : FactsOf t delta (from .state)) where
   -- At most `left` steps more.
-  phaseFor-led : (left : ℕ) (r : Run) (size : ℕ) → Trail t delta from r size → Led t delta from (phaseFor t delta left r) (size + left)
+  pub phaseFor-led : (left : ℕ) (r : Run) (size : ℕ) → Trail t delta from r size → Led t delta from (phaseFor t delta left r) (size + left)
   unfolding phaseFor
   phaseFor-led zero r size trail = record { size = size; trail = trail; done = inl (omega arith) }
   phaseFor-led (suc left) r size trail =

@@ -7,7 +7,7 @@ use native.Mathlib.Omega.{arith}
 use borrow.Author.Tests.{eqb-true, eqb-false}
 use Rattle.network.specs.Network.{nearEnd}
 use Rattle.network.proofs.Notions.{ResidualFrom}
-use Rattle.network.proofs.Steps.{Chosen, Eligible, Steps, no-steps, saturating, nonsaturating, relabels}
+use Rattle.network.proofs.Steps.{NewLabel, Chosen, Eligible, Steps, no-steps, saturating, nonsaturating, relabels}
 use Rattle.network.proofs.Steps.{State as Functions, push as pushed, amount as moves}
 use Rattle.network.proofs.Gaps.{residual-arc}
 use Rattle.network.proofs.Bounds.{steps-hold}
@@ -127,6 +127,15 @@ module _ (t : Table) (ok : Accepted t) (delta : ℕ) (from : Run) (facts : Facts
           one true = refl
           one false = refl
 
+    -- Where no arc of node i's list is eligible, its new label is the theory's.
+    stuck-label : firstEligible t (r .state) i (list t i) ≡ Missing → NewLabel (networkOf t) (functionsOf (r .state)) i (newLabel t (r .state) i)
+    stuck-label missing = least-new-label t (accepted-sound t ok) (r .state) i missing out (trail-facts .highest)
+      where
+        out : ResidualFrom (networkOf t) (functionsOf (r .state) .flow) i
+        out =
+            residual-arc (networkOf t) (accepted-sound t ok) (functionsOf (r .state) .flow) (functionsOf (r .state) .excess) (trail-facts .pre)
+            (no-minimums t) i (chosen .node) (omega (arith, chosen .large))
+
     -- A relabel where no arc of node i's list is eligible is the theory's relabel.
     relabel-trail : firstEligible t (r .state) i (list t i) ≡ Missing → Trail t delta from (stepAt t delta r i Missing) (size + 1)
     unfolding stepAt
@@ -140,17 +149,11 @@ module _ (t : Table) (ok : Accepted t) (delta : ℕ) (from : Run) (facts : Facts
               (λ (S : Functions).
               Steps (networkOf t) delta (functionsOf (from .state)) S (trail .saturated) (trail .unsaturated) (trail .relabelled + 1))
               (sym (relabel-same t (accepted-sound t ok) (r .state) (trail .fits) i (chosen .node)))
-              (relabels (trail .steps) i (newLabel t (r .state) i) chosen
-              (least-new-label t (accepted-sound t ok) (r .state) i missing out (trail-facts .highest)));
+              (relabels (trail .steps) i (newLabel t (r .state) i) chosen (stuck-label missing));
           counted = omega (arith, trail .counted);
           size-is = omega (arith, trail .size-is);
           fits = relabel-fits t (accepted-sound t ok) (r .state) (trail .fits) i (chosen .node);
         }
-      where
-        out : ResidualFrom (networkOf t) (functionsOf (r .state) .flow) i
-        out =
-            residual-arc (networkOf t) (accepted-sound t ok) (functionsOf (r .state) .flow) (functionsOf (r .state) .excess) (trail-facts .pre)
-            (no-minimums t) i (chosen .node) (omega (arith, chosen .large))
 
     -- What is done at the chosen node goes on with the trail.
     at-trail : (f : Found) → firstEligible t (r .state) i (list t i) ≡ f → Trail t delta from (stepAt t delta r i f) (size + 1)
@@ -158,6 +161,11 @@ module _ (t : Table) (ok : Accepted t) (delta : ℕ) (from : Run) (facts : Facts
         let (member, arc) = found-place t (r .state) i (list t i) k e in
         push-trail k member (eligible-arc t (accepted-sound t ok) (r .state) i k member arc)
     at-trail Missing e = relabel-trail e
+
+  -- The new label of a chosen node that is stuck.
+  pub new-label : (i : ℕ) → choose t delta (r .state) ≡ Node i → firstEligible t (r .state) i (list t i) ≡ Missing
+      → NewLabel (networkOf t) (functionsOf (r .state)) i (newLabel t (r .state) i)
+  new-label i e missing = stuck-label i (choose-chosen t delta (r .state) i e) missing
 
   -- One more step: the node chosen, and what is done there.
   pub step-trail : (i : ℕ) → choose t delta (r .state) ≡ Node i → Trail t delta from (step t delta r i) (size + 1)

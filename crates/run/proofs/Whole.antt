@@ -17,13 +17,18 @@ use Rattle.table.specs.Table.{Table, arcs, capacity, networkOf}
 use Rattle.table.specs.Accepted.{Accepted}
 use Rattle.run.specs.Start.{State, start}
 use Rattle.run.specs.Scale.{largest, scaleOf, phaseCount, scale}
-use Rattle.run.specs.Phase.{Run, enough, phase, noSteps, deltaAfter, after, run}
-use Rattle.run.specs.Demands.{Scaled, Bounded}
+use Rattle.arcs.specs.Residual.{list}
+use Rattle.run.specs.Choice.{choose}
+use Rattle.run.specs.Push.{firstEligible}
+use Rattle.run.specs.declared.Choice.the-variants.{Node, Nothing}
+use Rattle.run.specs.declared.Found.the-variants.{Missing}
+use Rattle.run.specs.Phase.{Run, phaseFor, enough, phase, noSteps, deltaAfter, after, during, run}
+use Rattle.run.specs.Demands.{Scaled, OneAbove, Bounded}
 use Rattle.run.specs.Rows.{Fits}
 use Rattle.run.proofs.Networks.{functionsOf, FactsOf, accepted-sound, no-minimums}
 use Rattle.run.proofs.Choices.{choose-ended}
-use Rattle.run.proofs.Trails.{Counted, Trail}
-use Rattle.run.proofs.Courses.{Led, phase-led, phase-ended}
+use Rattle.run.proofs.Trails.{Counted, Trail, no-trail, new-label}
+use Rattle.run.proofs.Courses.{Led, phaseFor-led, phase-led, phase-ended}
 use Rattle.run.proofs.Beginning.{start-fits, start-facts}
 use Rattle.run.proofs.Doubling.{largest-most, scaled, phases-most, some-scale, halved}
 
@@ -151,18 +156,13 @@ module _ (t : Table) (ok : Accepted t) where
       }
   course (suc d) l = phase-course d l (course d (omega arith))
 
-  -- The whole run.
-  run-course : Course t (phaseCount t)
+  -- All K phases.
+  pub run-course : Course t (phaseCount t)
   run-course = course (phaseCount t) (omega arith)
 
-  -- Its rows have the table's lengths.
-  pub run-fits : Fits t (run t .state)
-  unfolding run
-  run-fits = run-course .fits
-
-  -- At its end the facts hold at Delta = 0: there is no excess.
-  pub end-facts : FactsOf t 0 (run t .state)
-  unfolding run scaleOf
+  -- At their end the facts hold at Delta = 0: there is no excess.
+  pub end-facts : FactsOf t 0 (after t (phaseCount t) .state)
+  unfolding scaleOf
   end-facts =
       let none : phaseCount t - phaseCount t ≡ 0 = omega arith in
       subst (λ (j : ℕ). FactsOf t (scaleOf j) (after t (phaseCount t) .state)) none (course-facts (phaseCount t) run-course)
@@ -179,6 +179,31 @@ module _ (t : Table) (ok : Accepted t) where
         nonsaturating-in-phase (networkOf t) (accepted-sound t ok) (no-minimums t) (deltaAfter t d) (functionsOf (after t d .state))
             (course-facts d before) (trail .steps) (delta-positive d l),
       )
+
+  -- Each phase ends with no node to choose.
+  phase-end : (d : ℕ) → d < phaseCount t → choose t (deltaAfter t d) (after t (suc d) .state) ≡ Nothing
+  unfolding after
+  phase-end d l =
+      let before : Course t d = course d (omega arith) in
+      phase-ended t ok (deltaAfter t d) (after t d) (course-facts d before) (delta-positive d l) (before .fits)
+
+  -- A chosen node that is stuck finds its new label at a residual arc.
+  stuck-above : (d j i : ℕ) → d < phaseCount t → choose t (deltaAfter t d) (during t d j) ≡ Node i
+      → firstEligible t (during t d j) i (list t i) ≡ Missing → OneAbove t (during t d j) i
+  stuck-above d j i l e missing =
+      let before : Course t d = course d (omega arith) in
+      let facts = course-facts d before in
+      let led = phaseFor-led t ok (deltaAfter t d) (after t d) facts j (after t d) 0 (no-trail t (deltaAfter t d) (after t d) (before .fits)) in
+      let new = new-label t ok (deltaAfter t d) (after t d) facts (phaseFor t (deltaAfter t d) j (after t d)) (led .size) (led .trail) i e missing in
+      record {
+        place = new .arc .place;
+        way = new .arc .way;
+        below = new .arc .below;
+        from = new .arc .from;
+        left = new .arc .left;
+        label = new .reached;
+        least = new .least;
+      }
 
   -- Demand 3 of the run's scale, phases and counts.
   pub run-bounded : Bounded t (scale t) (phaseCount t) (run t .counts)
@@ -208,4 +233,6 @@ module _ (t : Table) (ok : Accepted t) where
               relabels-in-all (networkOf t) sound (no-minimums t) (scale t) (functionsOf (start t)) (begin-facts t ok) (whole .phases) no-steps,
             );
         in-phase = phase-bound;
+        ended = phase-end;
+        relabelled = stuck-above;
       }

@@ -75,6 +75,10 @@ unfolding phase start phaseCount scaleOf
 after t zero = record { state = start t; counts = noSteps }
 after t (suc d) = phase t (deltaAfter t d) (after t d)
 
+-- The state after the first d phases and at most j steps of the next.
+abbrev pub during : Table → (d j : ℕ) → State
+during t d j = phaseFor t (deltaAfter t d) j (after t d) .state
+
 -- The whole run: K phases.
 unfoldable pub run : Table → Run
 unfolding after

@@ -24,8 +24,8 @@ use Rattle.reach.proofs.Side.{length-of-side}
 use Rattle.run.specs.Phase.{run, value}
 use Rattle.run.specs.declared.Outcome.{Outcome}
 use Rattle.run.proofs.Networks.{accepted-sound}
-use Rattle.run.proofs.Whole.{run-fits, run-bounded}
-use Rattle.run.proofs.Answers.{run-best}
+use Rattle.run.proofs.Whole.{run-bounded}
+use Rattle.run.proofs.Answers.{run-best, run-fits}
 use Rattle.start.specs.Sums.{sumAt}
 use Rattle.arcs.specs.Work.{workNeed}
 use Rattle.work.specs.Held.{Ran}
@@ -108,7 +108,7 @@ front-stored row from after k l room e =
 
 -- ---- the promise, by what the checks find
 
-module _ (t : Table) (stamp : ℕ) (flow side work : List ℕ) (v : Verdict) (found : v ≡ solvingVerdict t flow side work) where
+module _ (t : Table) (stamp : ℕ) (flow side work : List ℕ) (v : Verdict) (found : v ≡ solvingVerdict t (length flow) (length side) (length work)) where
   -- Where the checks refuse, solving gives that refusal and leaves the rows.
   pub refused-solving : (name : Name) (place : ℕ) → v ≡ Refused name place → (r : Answer) → r ≡ refusal name place
       → left r flow side work ≡ solving t stamp flow side work
@@ -167,9 +167,9 @@ solved-meets t stamp flow side work ok =
 
 -- What refuses nothing meets demands 2 and 3.
 pub solving-meets : (t : Table) (stamp : ℕ) (flow side work : List ℕ) (l : Left) → l ≡ solving t stamp flow side work → l .answer .refusal ≡ 0 → Meets t l
-solving-meets t stamp flow side work l same none = go (solvingVerdict t flow side work) refl
+solving-meets t stamp flow side work l same none = go (solvingVerdict t (length flow) (length side) (length work)) refl
   where
-    go : (v : Verdict) → v ≡ solvingVerdict t flow side work → Meets t l
+    go : (v : Verdict) → v ≡ solvingVerdict t (length flow) (length side) (length work) → Meets t l
     go Fine e =
         subst (Meets t) (fine-solving t stamp flow side work Fine e refl (solved t stamp flow side work) refl ∙ sym same)
         (solved-meets t stamp flow side work (fine-accepted t stamp flow side work Fine e refl))
