@@ -1,10 +1,13 @@
-/* The caller: takes calls from standard input, makes them through the static library, and writes on standard output what came back
-   and every lent row. All numbers are 32 bits and little-endian, marks one byte each.
+/* The caller: takes calls from standard input, makes them through the static libraries, and writes on standard output
+   what came back and every lent row. Numbers are 32 bits and little-endian; marks, texts and what is served are bytes.
 
-   A call: kind (1 solve, 2 solve arc records, 3 read by place), n, s, t, the table's stamp, the answer's stamp, the place, the six rows' lengths
-   (tails, heads, capacities, flow, side, work), then the rows. Solving has no answer's stamp and no place, reading no work row: they are 0 and
-   empty. For arc records the first three rows have one length; the records are made of them here, and the rows of the records afterwards.
-   What is written: nine 64-bit numbers (the answer's, or the reading's five and 0), then the six rows, then 1 if nothing was written beside them. */
+   A call: kind (1 solve, 2 solve arc records, 3 read by place, 4 read a text, 5 serve a text), n, s, t, the table's
+   stamp, the answer's stamp, the place, the lengths of the eight rows (tails, heads, capacities, flow, side, work,
+   text, out), then the rows. Numbers that a call doesn't have are 0, rows that it doesn't have are empty. For arc
+   records the first three rows have one length; the records are made of them here, and the rows of the records
+   afterwards.
+   What is written: nine 64-bit numbers (the answer's nine, the reading's five, the text's six or where the served bytes
+   end, then 0), then the eight rows, then 1 if nothing was written beside them. */
 #include <stdint.h>
 #include <stdlib.h>
 #include <string.h>
@@ -12,8 +15,8 @@
 
 #include "jorrabide.h"
 
-enum { SOLVE = 1, SOLVE_RECORDS, READ_PLACE };
-enum { TAILS, HEADS, CAPACITIES, FLOW, SIDE, WORK, ROWS };
+enum { SOLVE = 1, SOLVE_RECORDS, READ_PLACE, READ_TEXT, SERVE };
+enum { TAILS, HEADS, CAPACITIES, FLOW, SIDE, WORK, TEXT, OUT, ROWS };
 enum { KIND, NODES, SOURCE, SINK, STAMP, ANSWER_STAMP, PLACE, LENGTHS, HEADER = LENGTHS + ROWS };
 enum { FENCE = 64, FENCE_BYTE = 0xA5 };
 
@@ -24,6 +27,15 @@ struct arc {
 struct jorrabide_answer solve_records(
     uint32_t n, uint32_t s, uint32_t t, uint32_t stamp, const struct arc *arcs, size_t arcs_length,
     uint32_t *flow, size_t flow_length, uint8_t *side, size_t side_length, uint32_t *work, size_t work_length);
+
+/* Reading a text into three arc rows, and serving one, which are in no header either. */
+struct jorrabide_text {
+    uint32_t refusal, place, n, m, s, t;
+};
+struct jorrabide_text jorrabide_read_text(
+    const uint8_t *text, size_t text_length, uint32_t *tails, size_t tails_length,
+    uint32_t *heads, size_t heads_length, uint32_t *capacities, size_t capacities_length);
+size_t jorrabide_serve(const uint8_t *text, size_t text_length, uint8_t *out, size_t out_length);
 
 struct row {
     unsigned char *memory;
@@ -69,8 +81,14 @@ static struct row read_row(size_t length, size_t width) {
     return row;
 }
 
+/* The bytes of a row. */
+static uint8_t *bytes(struct row row) { return row.memory + FENCE; }
+
 /* The numbers of a row. */
-static uint32_t *numbers(struct row row) { return (uint32_t *)(row.memory + FENCE); }
+static uint32_t *numbers(struct row row) { return (uint32_t *)bytes(row); }
+
+/* How many bytes a place of a row takes. */
+static size_t width(int row) { return row == SIDE || row == TEXT || row == OUT ? 1 : 4; }
 
 /* 1 if both fences of a row are as they were. */
 static int is_fenced(struct row row) {
@@ -92,7 +110,7 @@ static void call_solve(const uint32_t *call, const struct row *rows, uint64_t *r
                    call[NODES], call[SOURCE], call[SINK], call[STAMP],
                    numbers(rows[TAILS]), rows[TAILS].length, numbers(rows[HEADS]), rows[HEADS].length,
                    numbers(rows[CAPACITIES]), rows[CAPACITIES].length, numbers(rows[FLOW]), rows[FLOW].length,
-                   rows[SIDE].memory + FENCE, rows[SIDE].length, numbers(rows[WORK]), rows[WORK].length),
+                   bytes(rows[SIDE]), rows[SIDE].length, numbers(rows[WORK]), rows[WORK].length),
                result);
 }
 
@@ -105,8 +123,9 @@ static void call_solve_records(const uint32_t *call, const struct row *rows, uin
     for (size_t k = 0; k < length; k++)
         arcs[k] = (struct arc){numbers(rows[TAILS])[k], numbers(rows[HEADS])[k], numbers(rows[CAPACITIES])[k]};
     put_answer(solve_records(
-                   call[NODES], call[SOURCE], call[SINK], call[STAMP], arcs, length, numbers(rows[FLOW]), rows[FLOW].length,
-                   rows[SIDE].memory + FENCE, rows[SIDE].length, numbers(rows[WORK]), rows[WORK].length),
+                   call[NODES], call[SOURCE], call[SINK], call[STAMP], arcs, length,
+                   numbers(rows[FLOW]), rows[FLOW].length, bytes(rows[SIDE]), rows[SIDE].length,
+                   numbers(rows[WORK]), rows[WORK].length),
                result);
     for (size_t k = 0; k < length; k++) {
         numbers(rows[TAILS])[k] = arcs[k].tail;
@@ -123,27 +142,43 @@ static void call_read_place(const uint32_t *call, const struct row *rows, uint64
         call[NODES], call[SOURCE], call[SINK], call[STAMP],
         numbers(rows[TAILS]), rows[TAILS].length, numbers(rows[HEADS]), rows[HEADS].length,
         numbers(rows[CAPACITIES]), rows[CAPACITIES].length, call[ANSWER_STAMP],
-        numbers(rows[FLOW]), rows[FLOW].length, rows[SIDE].memory + FENCE, rows[SIDE].length, call[PLACE]);
+        numbers(rows[FLOW]), rows[FLOW].length, bytes(rows[SIDE]), rows[SIDE].length, call[PLACE]);
     const uint64_t fields[9] = {reading.refusal, reading.place, reading.flow, reading.capacity, reading.crossing};
     memcpy(result, fields, sizeof fields);
+}
+
+/* Makes the call of reading a text. */
+static void call_read_text(const struct row *rows, uint64_t *result) {
+    struct jorrabide_text text = jorrabide_read_text(
+        bytes(rows[TEXT]), rows[TEXT].length, numbers(rows[TAILS]), rows[TAILS].length,
+        numbers(rows[HEADS]), rows[HEADS].length, numbers(rows[CAPACITIES]), rows[CAPACITIES].length);
+    const uint64_t fields[9] = {text.refusal, text.place, text.n, text.m, text.s, text.t};
+    memcpy(result, fields, sizeof fields);
+}
+
+/* Makes the call of serving a text. */
+static void call_serve(const struct row *rows, uint64_t *result) {
+    result[0] = jorrabide_serve(bytes(rows[TEXT]), rows[TEXT].length, bytes(rows[OUT]), rows[OUT].length);
 }
 
 int main(void) {
     uint32_t call[HEADER];
     while (read_all(call, sizeof call)) {
         struct row rows[ROWS];
-        for (int k = 0; k < ROWS; k++) rows[k] = read_row(call[LENGTHS + k], k == SIDE ? 1 : 4);
+        for (int k = 0; k < ROWS; k++) rows[k] = read_row(call[LENGTHS + k], width(k));
         uint64_t result[9] = {0};
         switch (call[KIND]) {
             case SOLVE: call_solve(call, rows, result); break;
             case SOLVE_RECORDS: call_solve_records(call, rows, result); break;
             case READ_PLACE: call_read_place(call, rows, result); break;
+            case READ_TEXT: call_read_text(rows, result); break;
+            case SERVE: call_serve(rows, result); break;
             default: return 1;
         }
         write_all(result, sizeof result);
         uint32_t fenced = 1;
         for (int k = 0; k < ROWS; k++) {
-            write_all(rows[k].memory + FENCE, rows[k].bytes);
+            write_all(bytes(rows[k]), rows[k].bytes);
             if (!is_fenced(rows[k])) fenced = 0;
             free(rows[k].memory);
         }

@@ -87,3 +87,11 @@ pub fn desk(text: &[u8]) -> Vec<u8> {
     };
     printed.into_bytes()
 }
+
+/// Writes what the desk program prints into a lent row of bytes as far as it goes, and tells where the bytes end.
+pub fn serve(text: &[u8], out: &mut [u8]) -> usize {
+    let printed = desk(text);
+    let end = printed.len().min(out.len());
+    out[..end].copy_from_slice(&printed[..end]);
+    end
+}

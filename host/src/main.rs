@@ -2,7 +2,7 @@
 
 use judge::boundaries;
 use judge::compare::texts::random_text;
-use judge::compare::{compare_calls, compare_texts, wanted_of_calls, wanted_of_texts, Comparison, Seen, ENOUGH};
+use judge::compare::{compare_calls, compare_texts, wanted_of_texts, Calls, Comparison, Seen, CALLS, ENOUGH, READINGS};
 use judge::desk::desk;
 use judge::families::{lines, FAMILIES};
 use std::io::{self, Read, Write};
@@ -17,7 +17,9 @@ const USAGE: &str = "usage:
   judge family NUMBER N M                 the table of a family, from 1, as a text
   judge text SEED INDEX                   a text of the comparison
   judge texts COUNT SEED COMMAND WORD..   random texts through a desk
-  judge calls COUNT SEED COMMAND WORD..   random calls through a caller";
+  judge calls COUNT SEED COMMAND WORD..   random calls of solving and reading by place through a caller
+  judge readings COUNT SEED COMMAND WORD..
+                                          random readings of text, and served texts, through a caller";
 
 /// Writes what the desk program prints for standard input.
 fn answer_input() -> io::Result<bool> {
@@ -78,7 +80,7 @@ fn write_text(seed: u64, index: u64) -> io::Result<bool> {
 }
 
 /// Tells what a comparison saw; true if nothing differed and, in enough cases, everything wanted was there.
-fn told(what: &str, comparison: &Comparison, seen: &Seen, wanted: &[String]) -> io::Result<bool> {
+fn told(what: &str, comparison: &Comparison, seen: &Seen, wanted: &[String], enough: u64) -> io::Result<bool> {
     let times: Vec<String> = seen
         .times
         .iter()
@@ -91,7 +93,7 @@ fn told(what: &str, comparison: &Comparison, seen: &Seen, wanted: &[String]) -> 
         println!("never seen: {missing:?}");
     }
     println!("{count} {what} at seed {seed}, {differing} differences");
-    Ok(differing == 0 && (missing.is_empty() || count < ENOUGH))
+    Ok(differing == 0 && (missing.is_empty() || count < enough))
 }
 
 /// The number that an argument gives.
@@ -111,6 +113,12 @@ fn comparison(count: &str, seed: &str, command: &[&str]) -> io::Result<Compariso
     })
 }
 
+/// Compares calls and tells what was seen.
+fn told_of_calls(calls: &Calls, comparison: Comparison) -> io::Result<bool> {
+    let seen = compare_calls(calls, &comparison);
+    told(calls.what, &comparison, &seen, &(calls.wanted)(), calls.enough)
+}
+
 /// Takes the arguments and runs what they ask for.
 fn run(arguments: &[&str]) -> io::Result<bool> {
     match arguments {
@@ -123,11 +131,14 @@ fn run(arguments: &[&str]) -> io::Result<bool> {
         ["text", seed, index] => write_text(number(seed)?, number(index)?),
         ["texts", count, seed, command @ ..] if !command.is_empty() => {
             let comparison = comparison(count, seed, command)?;
-            told("texts", &comparison, &compare_texts(&comparison), &wanted_of_texts())
+            let seen = compare_texts(&comparison);
+            told("texts", &comparison, &seen, &wanted_of_texts(), ENOUGH)
         }
         ["calls", count, seed, command @ ..] if !command.is_empty() => {
-            let comparison = comparison(count, seed, command)?;
-            told("calls", &comparison, &compare_calls(&comparison), &wanted_of_calls())
+            told_of_calls(&CALLS, comparison(count, seed, command)?)
+        }
+        ["readings", count, seed, command @ ..] if !command.is_empty() => {
+            told_of_calls(&READINGS, comparison(count, seed, command)?)
         }
         _ => Err(io::Error::other(USAGE)),
     }

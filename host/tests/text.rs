@@ -3,7 +3,7 @@
 mod shared;
 
 use judge::compare::tables::OwnTable;
-use judge::desk::desk;
+use judge::desk::{desk, serve};
 use judge::refusal::Name;
 use judge::text::Given;
 use shared::{
@@ -311,6 +311,28 @@ fn the_desk_prints_refusals_and_the_table_without_arcs() {
     assert!(lines.ends_with(&format!("flow={}\n", ["3"; 4_096].join(" "))));
     let more = two_nodes(4_097, &"a 1 2 3\n".repeat(4_097));
     assert_eq!(desk(more.as_bytes()), b"refusal=ARCS\nplace=0\n");
+}
+
+/// A served text is what the desk program prints, cut where the lent row ends, and later bytes are unchanged.
+#[test]
+fn a_served_text_goes_as_far_as_the_row_does() {
+    for text in [LISTING_TEXT.as_bytes(), b"", &padded_text(65_537)] {
+        let printed = desk(text);
+        for length in [
+            0,
+            1,
+            printed.len() - 1,
+            printed.len(),
+            printed.len() + 1,
+            printed.len() + 9,
+        ] {
+            let mut row = vec![7; length];
+            let end = serve(text, &mut row);
+            assert_eq!(end, printed.len().min(length));
+            assert_eq!(row[..end], printed[..end]);
+            assert!(row[end..].iter().all(|byte| *byte == 7));
+        }
+    }
 }
 
 /// Parts numbers by one blank.

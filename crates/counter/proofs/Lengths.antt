@@ -11,11 +11,11 @@ use lib.Dec.{ltb, eqb}
 use lib.ListN.{length, getD, drop, length-append, length-take}
 use borrow.Author.Tests.{lt-ltb, le-ltb}
 use Rattle.table.specs.declared.Name.{Name}
+use Rattle.table.specs.declared.Name.the-variants.{Long}
 use Rattle.table.proofs.Numbers.{name-short}
 use Rattle.table.specs.Table.{Table, arcs}
 use Rattle.run.specs.Phase.{run}
-use Rattle.run.proofs.Whole.{run-fits}
-use Rattle.run.proofs.Answers.{run-best}
+use Rattle.run.proofs.Answers.{run-best, run-fits}
 use Rattle.reach.specs.Side.{sideOf}
 use Rattle.solver.specs.Solving.{solution}
 use Rattle.solver.proofs.Solved.{solved-marks}

@@ -156,18 +156,13 @@ module _ (t : Table) (ok : Accepted t) where
       }
   course (suc d) l = phase-course d l (course d (omega arith))
 
-  -- The whole run.
-  run-course : Course t (phaseCount t)
+  -- All K phases.
+  pub run-course : Course t (phaseCount t)
   run-course = course (phaseCount t) (omega arith)
 
-  -- Its rows have the table's lengths.
-  pub run-fits : Fits t (run t .state)
-  unfolding run
-  run-fits = run-course .fits
-
-  -- At its end the facts hold at Delta = 0: there is no excess.
-  pub end-facts : FactsOf t 0 (run t .state)
-  unfolding run scaleOf
+  -- At their end the facts hold at Delta = 0: there is no excess.
+  pub end-facts : FactsOf t 0 (after t (phaseCount t) .state)
+  unfolding scaleOf
   end-facts =
       let none : phaseCount t - phaseCount t ≡ 0 = omega arith in
       subst (λ (j : ℕ). FactsOf t (scaleOf j) (after t (phaseCount t) .state)) none (course-facts (phaseCount t) run-course)

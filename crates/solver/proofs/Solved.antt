@@ -24,8 +24,8 @@ use Rattle.reach.proofs.Side.{length-of-side}
 use Rattle.run.specs.Phase.{run, value}
 use Rattle.run.specs.declared.Outcome.{Outcome}
 use Rattle.run.proofs.Networks.{accepted-sound}
-use Rattle.run.proofs.Whole.{run-fits, run-bounded}
-use Rattle.run.proofs.Answers.{run-best}
+use Rattle.run.proofs.Whole.{run-bounded}
+use Rattle.run.proofs.Answers.{run-best, run-fits}
 use Rattle.start.specs.Sums.{sumAt}
 use Rattle.arcs.specs.Work.{workNeed}
 use Rattle.work.specs.Held.{Ran}

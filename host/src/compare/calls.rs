@@ -1,31 +1,11 @@
-//! Random calls of solving and reading by place on lent rows, and what must come back from them.
+//! Random calls of solving and reading by place on lent rows.
+use super::caller::{Call, Kind};
 use super::random::Random;
 use super::tables::{put_fault, random_table, Fault, OwnTable, FAULTS};
-use crate::reading::read_place;
-use crate::solve::solve;
-
-/// Which call is made.
-#[derive(Clone, Copy, PartialEq, Eq, Debug)]
-pub enum Kind {
-    Solve,
-    SolveRecords,
-    ReadPlace,
-}
-
-/// A call: its numbers and all rows that are lent to it. Solving has no answer's stamp and no place, reading no work row.
-pub struct Call {
-    pub kind: Kind,
-    pub table: OwnTable,
-    pub stamp: u32,
-    pub answer_stamp: u32,
-    pub place: u32,
-    pub flow: Vec<u32>,
-    pub side: Vec<u8>,
-    pub work: Vec<u32>,
-}
+use crate::refusal::Name;
 
 /// A number that a lent row may hold beforehand.
-fn odd_number(random: &mut Random) -> u32 {
+pub fn odd_number(random: &mut Random) -> u32 {
     let any = random.bits() as u32;
     random.one_of(&[0, 1, 2, 7, 1_000_000, u32::MAX, any])
 }
@@ -115,14 +95,11 @@ fn called_rows(random: &mut Random) -> OwnTable {
 fn random_solve(random: &mut Random, kind: Kind, table: OwnTable) -> Call {
     let (n, m) = (u64::from(table.n), table.arcs() as u64);
     Call {
-        kind,
         stamp: odd_number(random),
-        answer_stamp: 0,
-        place: 0,
         flow: odd_row(random, m),
         side: odd_marks(random, n),
         work: odd_row(random, 4 * n + 2 * m + 1),
-        table,
+        ..Call::of(kind, table)
     }
 }
 
@@ -131,14 +108,12 @@ fn random_reading(random: &mut Random, table: OwnTable) -> Call {
     let (n, m) = (u64::from(table.n), table.arcs() as u64);
     let stamp = odd_number(random);
     Call {
-        kind: Kind::ReadPlace,
         stamp,
         answer_stamp: stamp_beside(random, stamp),
         place: asked_place(random, table.arcs()),
         flow: odd_row(random, m),
         side: odd_marks(random, n),
-        work: Vec::new(),
-        table,
+        ..Call::of(Kind::ReadPlace, table)
     }
 }
 
@@ -161,108 +136,21 @@ pub fn random_call(seed: u64, index: u64) -> Call {
     }
 }
 
-/// Appends numbers of 32 bits, little-endian.
-fn put_numbers(bytes: &mut Vec<u8>, numbers: &[u32]) {
-    for number in numbers {
-        bytes.extend_from_slice(&number.to_le_bytes());
-    }
+/// A call and how it ended.
+pub fn called(kind: Kind, refusal: u64) -> String {
+    format!("{kind:?} {refusal:2}")
 }
 
-/// Appends the six lent rows, in the caller's order.
-fn put_rows(bytes: &mut Vec<u8>, call: &Call) {
-    put_numbers(bytes, &call.table.tails);
-    put_numbers(bytes, &call.table.heads);
-    put_numbers(bytes, &call.table.capacities);
-    put_numbers(bytes, &call.flow);
-    bytes.extend_from_slice(&call.side);
-    put_numbers(bytes, &call.work);
+/// What a call brings: how it ended.
+pub fn brought(call: &Call, numbers: &[u64; 9]) -> Vec<String> {
+    vec![called(call.kind, numbers[0])]
 }
 
-/// A call as the caller takes it.
-pub fn sent(call: &Call) -> Vec<u8> {
-    let kind = match call.kind {
-        Kind::Solve => 1,
-        Kind::SolveRecords => 2,
-        Kind::ReadPlace => 3,
-    };
-    let table = &call.table;
-    let mut bytes = Vec::new();
-    put_numbers(
-        &mut bytes,
-        &[
-            kind,
-            table.n,
-            table.s,
-            table.t,
-            call.stamp,
-            call.answer_stamp,
-            call.place,
-        ],
-    );
-    let lengths = [
-        table.tails.len(),
-        table.heads.len(),
-        table.capacities.len(),
-        call.flow.len(),
-        call.side.len(),
-        call.work.len(),
-    ];
-    put_numbers(&mut bytes, &lengths.map(|length| length as u32));
-    put_rows(&mut bytes, call);
-    bytes
-}
-
-/// Makes the call by the independent program: its nine numbers; the call's rows are changed as solving changes them.
-fn made(call: &mut Call) -> [u64; 9] {
-    let table = call.table.lent();
-    match call.kind {
-        Kind::Solve | Kind::SolveRecords => {
-            let answer = solve(&table, call.stamp, &mut call.flow, &mut call.side, &mut call.work);
-            [
-                u64::from(answer.refusal),
-                u64::from(answer.place),
-                u64::from(answer.stamp),
-                answer.value,
-                answer.scale,
-                u64::from(answer.phases),
-                answer.saturating,
-                answer.nonsaturating,
-                answer.relabels,
-            ]
-        }
-        Kind::ReadPlace => {
-            let reading = read_place(
-                &table,
-                call.stamp,
-                call.answer_stamp,
-                &call.flow,
-                &call.side,
-                call.place,
-            );
-            let five = [
-                reading.refusal,
-                reading.place,
-                reading.flow,
-                reading.capacity,
-                reading.crossing,
-            ];
-            let mut numbers = [0; 9];
-            for (number, field) in numbers.iter_mut().zip(five) {
-                *number = u64::from(field);
-            }
-            numbers
-        }
-    }
-}
-
-/// What must come back: nine numbers, all rows, and that nothing was written beside them; and the refusal's number.
-pub fn expected(call: &mut Call) -> (u64, Vec<u8>) {
-    let numbers = made(call);
-    let mut bytes = Vec::new();
-    for number in numbers {
-        bytes.extend_from_slice(&number.to_le_bytes());
-    }
-    put_rows(&mut bytes, call);
-    put_numbers(&mut bytes, &[1]);
-    (numbers[0], bytes)
+/// What every comparison of calls must have seen: an answer and each refusal of each call (records never have ROWS).
+pub fn wanted() -> Vec<String> {
+    let mut wanted: Vec<String> = (0..=8).map(|number| called(Kind::Solve, number)).collect();
+    let of_records = (0..=8).filter(|number| *number != u64::from(Name::Rows.number()));
+    wanted.extend(of_records.map(|number| called(Kind::SolveRecords, number)));
+    wanted.extend((0..=12).map(|number| called(Kind::ReadPlace, number)));
+    wanted
 }

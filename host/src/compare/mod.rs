@@ -1,11 +1,14 @@
-//! The comparisons: random texts through the built desk, random calls through the static library, each beside this program's own answer.
+//! The comparisons: random texts through the built desk, random calls through the static libraries, each beside this
+//! program's own answer.
 
+pub mod caller;
 pub mod calls;
 pub mod random;
+pub mod readings;
 pub mod tables;
 pub mod texts;
 
-use self::calls::{expected, random_call, sent, Kind};
+use self::caller::{expected, sent, Call};
 use self::texts::random_text;
 use crate::desk::desk;
 use crate::refusal::Name;
@@ -71,7 +74,7 @@ fn printed(command: &[String], input: &[u8]) -> Vec<u8> {
 }
 
 /// How an answer ended: `solved` or, of a refusal, its name.
-fn outcome(answer: &[u8]) -> String {
+pub fn outcome(answer: &[u8]) -> String {
     let line = answer.split(|byte| *byte == b'\n').next().unwrap_or_default();
     let line = String::from_utf8_lossy(line);
     match line.strip_prefix("refusal=") {
@@ -128,7 +131,8 @@ pub fn compare_texts(comparison: &Comparison) -> Seen {
     seen
 }
 
-/// What every comparison of texts must have seen: each damage and bound, each refusal of a text, each length at the desk's bound.
+/// What every comparison of texts must have seen: each damage and bound, each refusal of a text, each length at the
+/// desk's bound.
 pub fn wanted_of_texts() -> Vec<String> {
     use Name::*;
     let names = [Nodes, Arcs, Ends, Node, Loop, Capacity, Line, Count, Long];
@@ -139,16 +143,44 @@ pub fn wanted_of_texts() -> Vec<String> {
     wanted
 }
 
+/// A comparison of calls: how a call is made from a seed and an index, what each brings, and what must have been seen
+/// from so many calls on.
+pub struct Calls {
+    pub what: &'static str,
+    pub random: fn(u64, u64) -> Call,
+    pub brought: fn(&Call, &[u64; 9]) -> Vec<String>,
+    pub wanted: fn() -> Vec<String>,
+    pub enough: u64,
+}
+
+/// Solving and reading by place.
+pub const CALLS: Calls = Calls {
+    what: "calls",
+    random: calls::random_call,
+    brought: calls::brought,
+    wanted: calls::wanted,
+    enough: 20_000,
+};
+
+/// Reading and serving texts.
+pub const READINGS: Calls = Calls {
+    what: "readings of text",
+    random: readings::random_reading,
+    brought: readings::brought,
+    wanted: readings::wanted,
+    enough: 2_000,
+};
+
 /// Makes each call through the caller, and compares all that comes back.
-pub fn compare_calls(comparison: &Comparison) -> Seen {
+pub fn compare_calls(calls: &Calls, comparison: &Comparison) -> Seen {
     let mut caller = started(&comparison.command);
     let mut to = caller.stdin.take().expect("its input is ours");
     let mut from = caller.stdout.take().expect("its output is ours");
     let mut seen = Seen::default();
     for index in 0..comparison.count {
-        let mut call = random_call(comparison.seed, index);
+        let call = (calls.random)(comparison.seed, index);
         to.write_all(&sent(&call)).expect("the caller takes the call");
-        let (refusal, ours) = expected(&mut call);
+        let (numbers, ours) = expected(&call);
         let mut theirs = vec![0; ours.len()];
         from.read_exact(&mut theirs).expect("the caller answers");
         if ours != theirs {
@@ -159,24 +191,12 @@ pub fn compare_calls(comparison: &Comparison) -> Seen {
                 comparison.seed
             );
         }
-        seen.count(called(call.kind, refusal));
+        for thing in (calls.brought)(&call, &numbers) {
+            seen.count(thing);
+        }
     }
     drop(to);
     let ended = caller.wait().expect("the caller ends");
     assert!(ended.success(), "the caller ends well");
     seen
-}
-
-/// A call and how it ended.
-fn called(kind: Kind, refusal: u64) -> String {
-    format!("{kind:?} {refusal:2}")
-}
-
-/// What every comparison of calls must have seen: each refusal of each call (arc records never have ROWS), and an answer.
-pub fn wanted_of_calls() -> Vec<String> {
-    let mut wanted: Vec<String> = (0..=8).map(|number| called(Kind::Solve, number)).collect();
-    let of_records = (0..=8).filter(|number| *number != u64::from(Name::Rows.number()));
-    wanted.extend(of_records.map(|number| called(Kind::SolveRecords, number)));
-    wanted.extend((0..=12).map(|number| called(Kind::ReadPlace, number)));
-    wanted
 }

@@ -408,13 +408,10 @@ pub fn wanted() -> Vec<String> {
     wanted
 }
 
-/// Text `index` of a seed, and what it brings: damages and bounds.
-pub fn random_text(seed: u64, index: u64) -> (Vec<u8>, Vec<String>) {
-    let mut random = Random::of_case(seed, index);
-    let random = &mut random;
-    let damages = chosen(random);
+/// A text with these damages, and what it brings: damages and bounds.
+pub fn text_with(random: &mut Random, damages: &[Damage]) -> (Vec<u8>, Vec<String>) {
     let mut table = random_table(random);
-    for damage in &damages {
+    for damage in damages {
         if let Damage::TableFault(fault) = damage {
             put_fault(random, &mut table, *fault);
         }
@@ -423,7 +420,7 @@ pub fn random_text(seed: u64, index: u64) -> (Vec<u8>, Vec<String>) {
     if random.once_in(2) {
         add_comments(random, &mut draft);
     }
-    for damage in &damages {
+    for damage in damages {
         if !matches!(damage, Damage::TableFault(_)) {
             damage_text(random, &mut draft, *damage);
         }
@@ -431,4 +428,11 @@ pub fn random_text(seed: u64, index: u64) -> (Vec<u8>, Vec<String>) {
     let mut brought = bounds_met(&table);
     brought.extend(damages.iter().map(|damage| format!("{damage:?}")));
     (joined(&draft), brought)
+}
+
+/// Text `index` of a seed, and what it brings.
+pub fn random_text(seed: u64, index: u64) -> (Vec<u8>, Vec<String>) {
+    let random = &mut Random::of_case(seed, index);
+    let damages = chosen(random);
+    text_with(random, &damages)
 }
