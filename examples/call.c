@@ -1,7 +1,14 @@
-/* Solves document 01's listing from C, then reads the answer at place 3, before and after the table was rebuilt. */
+/* Solves the listing of examples/listing.txt from C, then reads the answer at place 3, before and after the table was rebuilt. */
 #include <stdio.h>
 
 #include "jorrabide.h"
+
+/* What a manager's screen says of an answer that belongs to another state of the table: a refusal's place is its distance. */
+static void show_age(struct jorrabide_reading reading) {
+    if (reading.refusal == 9) printf("refusal 9, STALE: this answer is of %u rebuilds ago\n", reading.place);
+    if (reading.refusal == 10) printf("refusal 10, UNORDERED: older or newer cannot be told\n");
+    if (reading.refusal == 11) printf("refusal 11, AHEAD: the table is an old copy, %u rebuilds behind\n", reading.place);
+}
 
 int main(void) {
     const uint32_t tails[4] = {1, 1, 2, 3};
@@ -27,8 +34,8 @@ int main(void) {
         jorrabide_read_place(4, 1, 4, stamp, tails, 4, heads, 4, capacities, 4, answer.stamp, flow, 4, side, 4, 3);
     printf("place 3: flow %u of %u%s\n", reading.flow, reading.capacity, reading.crossing ? ", crosses the cut: full" : "");
 
-    stamp = stamp + 1;
-    reading = jorrabide_read_place(4, 1, 4, stamp, tails, 4, heads, 4, capacities, 4, answer.stamp, flow, 4, side, 4, 3);
-    printf("after a rebuild: refusal %u (9 is STALE)\n", reading.refusal);
+    /* The table is rebuilt three times, and the answer is read against it; then an old copy of the table is read with it. */
+    show_age(jorrabide_read_place(4, 1, 4, stamp + 3, tails, 4, heads, 4, capacities, 4, answer.stamp, flow, 4, side, 4, 3));
+    show_age(jorrabide_read_place(4, 1, 4, stamp - 2, tails, 4, heads, 4, capacities, 4, answer.stamp, flow, 4, side, 4, 3));
     return 0;
 }

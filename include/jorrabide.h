@@ -23,7 +23,8 @@ struct jorrabide_answer {
     uint64_t relabels;
 };
 
-/* What reading by place returns: a refusal's number and place and 0 elsewhere, or refusal 0 and what stands there. */
+/* What reading by place returns: a refusal's number and place and 0 elsewhere, or refusal 0 and what stands there. The place of STALE (9)
+   and AHEAD (11) is the number of rebuilds between the table and the answer. */
 struct jorrabide_reading {
     uint32_t refusal;
     uint32_t place;

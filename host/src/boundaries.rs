@@ -103,7 +103,8 @@ fn answered(call: &str) -> Option<String> {
     Some(answer)
 }
 
-/// What the lines must bring: solved, and each refusal of solving; read, and each refusal of reading that its calls can have.
+/// What the lines must bring: solved, and each refusal of solving; read, and each refusal of reading that its calls can
+/// have, STALE and AHEAD at the least and the greatest distance.
 fn wanted() -> Vec<String> {
     let arcs_and_room = [
         "rows 4097 4097 4097, lent 4097 2 8203: refusal=3 ",
@@ -112,7 +113,10 @@ fn wanted() -> Vec<String> {
     ];
     let mut wanted: Vec<String> = arcs_and_room.map(str::to_string).to_vec();
     wanted.extend([0, 1, 2, 4, 6, 7, 8].map(|refusal| format!("lent 4 4 25: refusal={refusal} ")));
-    wanted.extend([0, 4, 5, 7, 9, 10, 11, 12].map(|refusal| format!("marks 1 1 1 0: refusal={refusal} ")));
+    wanted.extend([0, 4, 5, 7, 12].map(|refusal| format!("marks 1 1 1 0: refusal={refusal} ")));
+    let (least, greatest) = (1, 2_147_483_647);
+    let stamps = [(9, least), (9, greatest), (10, 0), (11, least), (11, greatest)];
+    wanted.extend(stamps.map(|(refusal, place)| format!("marks 1 1 1 0: refusal={refusal} place={place} ")));
     wanted
 }
 

@@ -18,13 +18,15 @@ fn has_room(table: &Table, flow: &[u32], side: &[u8]) -> bool {
     flow.len() >= table.arcs() && side.len() as u64 >= u64::from(table.n)
 }
 
-/// Compares the stamp of the table with that of the answer, taken round 2^32.
+/// Compares the stamps of the table and of the answer, taken round 2^32: the place is the distance, of UNORDERED 0.
 fn check_stamps(stamp: u32, answer_stamp: u32) -> Result<(), Refusal> {
-    match stamp.wrapping_sub(answer_stamp) {
+    let older = stamp.wrapping_sub(answer_stamp);
+    let newer = answer_stamp.wrapping_sub(stamp);
+    match older {
         0 => Ok(()),
-        1..=0x7fff_ffff => Err(Name::Stale.at(0)),
+        1..=0x7fff_ffff => Err(Name::Stale.at(older)),
         0x8000_0000 => Err(Name::Unordered.at(0)),
-        0x8000_0001..=0xffff_ffff => Err(Name::Ahead.at(0)),
+        0x8000_0001..=0xffff_ffff => Err(Name::Ahead.at(newer)),
     }
 }
 

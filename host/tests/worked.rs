@@ -94,25 +94,31 @@ fn unread(name: Name, place: u32) -> Reading {
     }
 }
 
-/// P7 takes the difference of the stamps round 2^32.
+/// P7 takes the difference of the stamps round 2^32: one rebuild ago.
 #[test]
 fn p7_stamps_are_taken_round() {
-    assert_eq!(read_with_stamps(0, 4_294_967_295), unread(Name::Stale, 0));
+    assert_eq!(read_with_stamps(0, 4_294_967_295), unread(Name::Stale, 1));
 }
 
-/// P8 has the bounds between same, STALE, UNORDERED and AHEAD.
+/// P8 has the bounds between same, STALE, UNORDERED and AHEAD, and the distance of STALE and of AHEAD.
 #[test]
 fn p8_the_borders_of_the_stamps() {
     let half = 2_147_483_648;
-    for (stamp, answer_stamp, name) in [
-        (half, 0, Name::Unordered),
-        (half + 1, 0, Name::Ahead),
-        (half - 1, 0, Name::Stale),
-        (1, 0, Name::Stale),
-        (0, 1, Name::Ahead),
-        (5, half + 5, Name::Unordered),
+    for (stamp, answer_stamp, name, distance) in [
+        (half, 0, Name::Unordered, 0),
+        (half + 1, 0, Name::Ahead, half - 1),
+        (half - 1, 0, Name::Stale, half - 1),
+        (1, 0, Name::Stale, 1),
+        (8, 5, Name::Stale, 3),
+        (1, 4_294_967_294, Name::Stale, 3),
+        (0, 1, Name::Ahead, 1),
+        (5, 8, Name::Ahead, 3),
+        (4_294_967_294, 1, Name::Ahead, 3),
+        (4_294_967_295, 0, Name::Ahead, 1),
+        (5, half + 5, Name::Unordered, 0),
+        (0, half, Name::Unordered, 0),
     ] {
-        assert_eq!(read_with_stamps(stamp, answer_stamp), unread(name, 0));
+        assert_eq!(read_with_stamps(stamp, answer_stamp), unread(name, distance));
     }
     for stamp in [0, 1, half, 4_294_967_295] {
         assert_eq!(read_with_stamps(stamp, stamp), reading(5, 5, 1));
@@ -282,7 +288,7 @@ fn reading_refuses_in_the_order_of_the_paper() {
         assert_eq!(found, unread(Name::Place, place));
     }
     let stale = |table: &OwnTable, flow: &[u32], side: &[u8]| read_place(&table.lent(), 1, 0, flow, side, 9);
-    assert_eq!(stale(&table, &[3, 3], &[1, 1, 0]), unread(Name::Stale, 0));
+    assert_eq!(stale(&table, &[3, 3], &[1, 1, 0]), unread(Name::Stale, 1));
     assert_eq!(stale(&table, &[3], &[1, 1, 0]), unread(Name::Room, 0));
     assert_eq!(stale(&table, &[3, 3], &[1, 1]), unread(Name::Room, 0));
     table.capacities[1] = 1_000_001;

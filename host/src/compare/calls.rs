@@ -4,6 +4,9 @@ use super::random::Random;
 use super::tables::{put_fault, random_table, Fault, OwnTable, FAULTS};
 use crate::refusal::Name;
 
+/// The distance of two stamps of which neither is the older.
+const HALF: u32 = 1 << 31;
+
 /// A number that a lent row may hold beforehand.
 pub fn odd_number(random: &mut Random) -> u32 {
     let any = random.bits() as u32;
@@ -64,12 +67,16 @@ fn called_table(random: &mut Random) -> OwnTable {
     table
 }
 
-/// The answer's stamp beside a table's: mostly the same, else at each bound of the ranges.
+/// The answer's stamp beside a table's: often the same, else few rebuilds away, at a bound of the ranges, or anywhere.
 fn stamp_beside(random: &mut Random, stamp: u32) -> u32 {
-    const HALF: u32 = 1 << 31;
+    let few = random.between(1, 5);
     let any = random.bits() as u32;
-    let distance = random.one_of(&[0, 0, 0, 0, 1, 2, HALF - 1, HALF, HALF + 1, u32::MAX - 1, u32::MAX, any]);
-    stamp.wrapping_sub(distance)
+    let distance = random.one_of(&[0, 0, 0, 0, 0, 1, few, HALF - few, HALF - 1, HALF, any]);
+    if random.once_in(2) {
+        stamp.wrapping_sub(distance)
+    } else {
+        stamp.wrapping_add(distance)
+    }
 }
 
 /// A place to ask for: mostly one of the table's.
@@ -141,16 +148,32 @@ pub fn called(kind: Kind, refusal: u64) -> String {
     format!("{kind:?} {refusal:2}")
 }
 
-/// What a call brings: how it ended.
-pub fn brought(call: &Call, numbers: &[u64; 9]) -> Vec<String> {
-    vec![called(call.kind, numbers[0])]
+/// How far the stamps are from each other, as it is told where it is a bound of the ranges.
+fn distance(refusal: u64, place: u64) -> Option<String> {
+    let name = [Name::Stale, Name::Unordered, Name::Ahead]
+        .into_iter()
+        .find(|name| u64::from(name.number()) == refusal)?;
+    let is_bound = [0, 1, u64::from(HALF) - 1].contains(&place);
+    is_bound.then(|| format!("{} at {place}", name.word()))
 }
 
-/// What every comparison of calls must have seen: an answer and each refusal of each call (records never have ROWS).
+/// What a call brings: how it ended, and a distance of stamps.
+pub fn brought(call: &Call, numbers: &[u64; 9]) -> Vec<String> {
+    let mut things = vec![called(call.kind, numbers[0])];
+    if call.kind == Kind::ReadPlace {
+        things.extend(distance(numbers[0], numbers[1]));
+    }
+    things
+}
+
+/// What every comparison of calls must have seen: an answer and each refusal of each call (records never have ROWS),
+/// and the least and the greatest distance of stamps.
 pub fn wanted() -> Vec<String> {
     let mut wanted: Vec<String> = (0..=8).map(|number| called(Kind::Solve, number)).collect();
     let of_records = (0..=8).filter(|number| *number != u64::from(Name::Rows.number()));
     wanted.extend(of_records.map(|number| called(Kind::SolveRecords, number)));
     wanted.extend((0..=12).map(|number| called(Kind::ReadPlace, number)));
+    let distances = "STALE at 1,STALE at 2147483647,UNORDERED at 0,AHEAD at 1,AHEAD at 2147483647";
+    wanted.extend(distances.split(',').map(str::to_string));
     wanted
 }
