@@ -14,7 +14,7 @@ use Rattle.rows.proofs.Sums.{by-equal, by-order}
 use Rattle.network.specs.Network.{farEnd}
 use Rattle.table.specs.Table.{Table, tableOf, networkOf, tail, head}
 use Rattle.table.specs.Accepted.{ArcRows}
-use Rattle.arcs.specs.Residual.{way, far, residual}
+use Rattle.arcs.specs.Residual.{way, far, residual, touches}
 use Rattle.run.specs.Start.{State}
 use Rattle.run.specs.Push.{eligible, firstEligible}
 use Rattle.run.specs.Relabel.{lesser, leastFar}
@@ -22,7 +22,6 @@ use Rattle.run.specs.declared.Found.the-variants.{Place, Missing}
 use Rattle.run.proofs.Networks.{by-cond}
 use Rattle.run.proofs.Arcs.{lesser-le, lesser-far}
 use Rattle.looking.specs.Looked.{NoneBefore, HighBefore}
-use Rattle.steps.specs.Rows.{touching}
 
 -- What holds of both ends of an arc holds of the far one.
 pub far-either : (P : ℕ → Type 0) (t : Table) (i k : ℕ) → P (head t k) → P (tail t k) → P (far t i k)
@@ -41,7 +40,7 @@ far-node {n} {k} {tails} {heads} {capacities} i rows l j e =
     (rows .ends .head-node k (omega (arith, rows .capacities-long))) (rows .ends .tail-node k (omega (arith, rows .capacities-long))))
 
 -- Of an arc that touches i the far end is what both ends add up to, less i.
-pub far-sum : (t : Table) (i k : ℕ) → touching (t .tails) (t .heads) i k ≡ true → (i ≤ tail t k + head t k) × ((tail t k + head t k) - i ≡ far t i k)
+pub far-sum : (t : Table) (i k : ℕ) → touches t i k ≡ true → (i ≤ tail t k + head t k) × ((tail t k + head t k) - i ≡ far t i k)
 far-sum t i k e =
     by-equal (tail t k) i
     (λ is. (omega arith, rw (eq-eqb (tail t k) i is) (omega arith)))

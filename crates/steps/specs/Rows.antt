@@ -1,21 +1,21 @@
 -- What the parts of the run find in rows and leave in them: for the contracts of functions over bare rows.
 use Prim.Native.Nat.{ℕ, _<_}
 use mathlib.Core.Path.{_≡_}
-use mathlib.Core.Bool.{Bool, true, _||_}
-use mathlib.Core.List.{List}
+use mathlib.Core.Bool.{Bool, true}
+use mathlib.Core.List.{List, []}
 use lib.ListN.{length}
-use lib.Dec.{eqb}
 use Rattle.rows.specs.Row.{atPlace}
-use Rattle.table.specs.Table.{Table}
+use Rattle.table.specs.Table.{Table, tableOf}
+use Rattle.arcs.specs.Residual.{touches}
 use Rattle.run.specs.Start.{State}
 use Rattle.run.specs.Push.{eligible, saturates, push}
 use Rattle.looking.specs.Looked.{NoneBefore}
 use Rattle.steps.specs.declared.Spot.{Spot}
 use Rattle.steps.specs.declared.Spot.the-variants.{At, End}
 
--- Whether the arc at place k touches node i.
+-- Whether the arc at place k touches node i, by these two rows alone.
 abbrev pub touching : (tails heads : List ℕ) → ℕ → ℕ → Bool
-touching tails heads i k = eqb (atPlace tails k) i || eqb (atPlace heads k) i
+touching tails heads i k = touches (tableOf 0 0 0 tails heads []) i k
 
 -- Every number of a list is a place below m, of an arc that touches node i.
 abbrev pub AllTouch : ℕ → (tails heads : List ℕ) → ℕ → List ℕ → Type 0
