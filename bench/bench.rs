@@ -1,4 +1,4 @@
-//! Milliseconds of the proved solver, of the yardstick and of the independent program on the families of docs/FAMILIES.md, in one run.
+//! CPU milliseconds of the proved solver, of the yardstick and of the independent program on the families of docs/FAMILIES.md, in one run.
 
 use judge::compare::tables::OwnTable;
 use judge::families::{Family, FAMILIES};
@@ -129,62 +129,53 @@ fn solve_yardstick(table: &OwnTable, flow: &mut [u32]) -> [u64; 3] {
     counts
 }
 
+extern "C" {
+    /// C's: microseconds of this process on a processor, so that other work on the machine does not count.
+    fn clock() -> std::ffi::c_long;
+}
+
 /// What one call gives; `least` is the least of the milliseconds so far and those that it takes.
 fn timed<T>(least: &mut f64, call: impl FnOnce() -> T) -> T {
-    let began = Instant::now();
+    let began = unsafe { clock() };
     let given = call();
-    *least = least.min(began.elapsed().as_secs_f64() * 1000.0);
+    *least = least.min((unsafe { clock() } - began) as f64 / 1000.0);
     given
 }
 
-/// How a number of milliseconds is printed, or that there is none.
-fn shown(number: f64) -> String {
-    match number.is_finite() {
-        true => format!("{number:.2}"),
-        false => "-".to_string(),
-    }
-}
-
-/// Times the solvers, the proved one and the yardstick in turn, shows that they answer the same, and prints the least times.
+/// Times the solvers, the yardstick and the proved one in turn, shows that they answer the same, and prints the least times.
 fn measure(family: Family, n: u32, m: u32, times: u32) {
     let table = family.table(n, m);
     let (mut ours, mut theirs) = (Rows::of(&table), Rows::of(&table));
-    let mut marked = vec![0; table.arcs()];
-    let [mut independent, mut proved, mut measured] = [f64::INFINITY; 3];
+    let [mut least, mut least_yardstick, mut least_proved] = [f64::INFINITY; 3];
     let began = Instant::now();
-    let mut answer = timed(&mut independent, || solve_independent(&table, &mut theirs));
+    let mut answer = timed(&mut least, || solve_independent(&table, &mut theirs));
     for _ in 1..times {
-        if began.elapsed().as_secs() >= ENOUGH {
-            break;
+        if began.elapsed().as_secs() < ENOUGH {
+            answer = timed(&mut least, || solve_independent(&table, &mut theirs));
         }
-        answer = timed(&mut independent, || solve_independent(&table, &mut theirs));
     }
     for _ in 0..times {
-        let counts = timed(&mut measured, || solve_yardstick(&table, &mut marked));
+        let counts = timed(&mut least_yardstick, || solve_yardstick(&table, &mut ours.flow));
         assert_eq!(counts, [answer.saturating, answer.nonsaturating, answer.relabels], "{family:?}");
-        assert_eq!(marked, theirs.flow, "{family:?}");
+        assert_eq!(ours.flow, theirs.flow, "{family:?}");
         let mut took = f64::INFINITY;
-        if let Some(given) = timed(&mut took, || proved::solve(&table, &mut ours)) {
-            proved = proved.min(took);
-            assert_eq!(given, answer, "{family:?}");
+        if let Some(proved) = timed(&mut took, || proved::solve(&table, &mut ours)) {
+            least_proved = least_proved.min(took);
+            assert_eq!(proved, answer, "{family:?}");
             assert_eq!((&ours.flow, &ours.side), (&theirs.flow, &theirs.side), "{family:?}");
         }
     }
     let steps = answer.saturating + answer.nonsaturating + answer.relabels;
-    println!(
-        "| {} | {n} | {m} | {steps} | {} | {} | {} | {} | {} |",
-        family.word(),
-        shown(independent),
-        shown(measured),
-        shown(proved),
-        shown(proved / measured),
-        if proved.is_finite() { format!("{:.0}", steps as f64 / proved * 1000.0) } else { "-".to_string() },
-    );
+    let proved = match least_proved.is_finite() {
+        true => format!("{least_proved:.2} | {:.2} | {:.0}", least_proved / least_yardstick, steps as f64 * 1000.0 / least_proved),
+        false => "- | - | -".to_string(),
+    };
+    println!("| {} | {n} | {m} | {steps} | {least:.2} | {least_yardstick:.2} | {proved} |", family.word());
 }
 
 fn main() {
     let times = std::env::args().nth(1).and_then(|word| word.parse().ok()).unwrap_or(3);
-    println!("| family | n | m | steps | independent, ms | yardstick, ms | proved, ms | proved / yardstick | proved, steps a second |");
+    println!("| family | n | m | steps | independent, ms | yardstick, ms | proved, ms | proved / yardstick | steps a second |");
     println!("|---|---|---|---|---|---|---|---|---|");
     for n in [64, 128, 256, 512] {
         for family in FAMILIES {
