@@ -108,9 +108,15 @@ fn solve_independent(table: &OwnTable, rows: &mut Rows) -> Answer {
 extern "C" {
     #[rustfmt::skip]
     fn yardstick(
-        n: u32, s: u32, t: u32, m: u32,
-        tails: *const u32, heads: *const u32, capacities: *const u32,
-        flow: *mut u32, counts: *mut u64,
+        n: u32,
+        s: u32,
+        t: u32,
+        m: u32,
+        tails: *const u32,
+        heads: *const u32,
+        capacities: *const u32,
+        flow: *mut u32,
+        counts: *mut u64,
     );
 }
 
@@ -156,7 +162,11 @@ fn measure(family: Family, n: u32, m: u32, times: u32) {
     }
     for _ in 0..times {
         let counts = timed(&mut least_yardstick, || solve_yardstick(&table, &mut ours.flow));
-        assert_eq!(counts, [answer.saturating, answer.nonsaturating, answer.relabels], "{family:?}");
+        assert_eq!(
+            counts,
+            [answer.saturating, answer.nonsaturating, answer.relabels],
+            "{family:?}"
+        );
         assert_eq!(ours.flow, theirs.flow, "{family:?}");
         let mut took = f64::INFINITY;
         if let Some(proved) = timed(&mut took, || proved::solve(&table, &mut ours)) {
@@ -167,10 +177,17 @@ fn measure(family: Family, n: u32, m: u32, times: u32) {
     }
     let steps = answer.saturating + answer.nonsaturating + answer.relabels;
     let proved = match least_proved.is_finite() {
-        true => format!("{least_proved:.2} | {:.2} | {:.0}", least_proved / least_yardstick, steps as f64 * 1000.0 / least_proved),
+        true => format!(
+            "{least_proved:.2} | {:.2} | {:.0}",
+            least_proved / least_yardstick,
+            steps as f64 * 1000.0 / least_proved
+        ),
         false => "- | - | -".to_string(),
     };
-    println!("| {} | {n} | {m} | {steps} | {least:.2} | {least_yardstick:.2} | {proved} |", family.word());
+    println!(
+        "| {} | {n} | {m} | {steps} | {least:.2} | {least_yardstick:.2} | {proved} |",
+        family.word()
+    );
 }
 
 fn main() {
