@@ -191,7 +191,7 @@ fn measure(family: Family, n: u32, m: u32, times: u32) {
 }
 
 fn main() {
-    let times = std::env::args().nth(1).and_then(|word| word.parse().ok()).unwrap_or(3);
+    let times = std::env::args().nth(1).and_then(|word| word.parse().ok()).unwrap_or(9);
     println!("| family | n | m | steps | independent, ms | yardstick, ms | proved, ms | proved / yardstick | steps a second |");
     println!("|---|---|---|---|---|---|---|---|---|");
     for n in [64, 128, 256, 512] {
