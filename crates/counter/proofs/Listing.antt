@@ -6,8 +6,8 @@ use Rattle.table.specs.Ascii.{bytes}
 use Rattle.table.specs.Checks.{outside, differ, badEnds, sizesOf, arcFault, orElse, firstFault, inOrder}
 use Rattle.scan.specs.Fields.{isLetter}
 use Rattle.scan.specs.Numbers.{isDigit, allDigits, decimal, leadingZero, numberForm, numberIn}
-use Rattle.scan.specs.Parts.{inFront, parts, beginsWith}
-use Rattle.text.specs.Lines.{problemFrom, problemOf, endFrom, endOf, arcFrom, arcOf, kindOf, problemStep, sourceStep, sinkStep, arcStep, stepOf, endStep, onwards, judge, arcIn, arcsOf}
+use Rattle.scan.specs.Parts.{inFront, parts, beginsWith, isThese, isSeparator, behind, fields}
+use Rattle.text.specs.Lines.{problemFrom, problemOf, endFrom, endOf, arcFrom, arcOf, kindFrom, kindOf, problemStep, sourceStep, sinkStep, arcStep, stepOf, endStep, onwards, judge, arcIn, arcsOf}
 use Rattle.text.specs.Reading.{hasArcRoom, tableVerdict, givenAs, afterJudging, givenBy}
 use Rattle.run.specs.Phase.{run, value}
 use Rattle.run.specs.Scale.{phaseCount, scaleOf}
@@ -39,5 +39,5 @@ texts =
 
 -- Each is printed so.
 pub desk-prints : map (λ (e : Shown). deskText (bytes (e .text))) texts ≡ map (λ (e : Shown). bytes (e .prints)) texts
-unfolding texts deskText answerText tableText inFront parts beginsWith isDigit allDigits decimal leadingZero numberForm numberIn isLetter problemFrom problemOf endFrom endOf arcFrom arcOf kindOf problemStep sourceStep sinkStep arcStep stepOf endStep onwards judge arcIn arcsOf hasArcRoom tableVerdict givenAs afterJudging givenBy sizesOf firstFault inOrder orElse arcFault outside differ badEnds sideFrom run value phaseCount scaleOf answerWith digitsOf spaced markedNodes numberLines solvedText nameText refusedText
+unfolding texts deskText answerText tableText inFront parts beginsWith isThese isSeparator behind fields isDigit allDigits decimal leadingZero numberForm numberIn isLetter problemFrom problemOf endFrom endOf arcFrom arcOf kindFrom kindOf problemStep sourceStep sinkStep arcStep stepOf endStep onwards judge arcIn arcsOf hasArcRoom tableVerdict givenAs afterJudging givenBy sizesOf firstFault inOrder orElse arcFault outside differ badEnds sideFrom run value phaseCount scaleOf answerWith digitsOf spaced markedNodes numberLines solvedText nameText refusedText
 desk-prints = refl

@@ -5,13 +5,13 @@ use mathlib.Core.Bool.{Bool, true, false, cond, Bool·beq}
 use mathlib.Core.List.{List, [], _∷_}
 use native.Mathlib.Nat.{add-zero, sub-self}
 use native.Mathlib.Omega.{arith}
-use lib.ListN.{length, getD, take, drop, length-drop, drop-of-length-le, List·getD-eq-default}
-use lib.Seq.{drop-cons, drop-drop, getD-drop, take-all}
+use lib.ListN.{length, getD, take, drop, length-drop, List·getD-eq-default}
+use lib.Seq.{drop-drop, getD-drop}
 use Rattle.scan.specs.Parts.{inFront, isSeparator, behind, fields, run, front}
 use Rattle.scan.specs.Fields.{fieldAt}
 use Rattle.scan.proofs.Parting.{run-within}
 
--- A byte in front of bytes that begin with a field and have others behind it: it is so again.
+-- A byte in front of bytes that begin with a field and have the others behind it: the longer bytes do too.
 opened : (b : ℕ) (xs : List ℕ) (t : Bool) → fields xs ≡ take (front false xs) xs ∷ behind (fields (drop (front false xs) xs))
     → let u = cond (Bool·beq t false) (suc (front false xs)) 0 in
     cond t ([] ∷ behind (fields xs)) (inFront b (fields xs))
@@ -43,7 +43,7 @@ kept b (f ∷ fs) = refl
 abbrev Begun : List ℕ → Type 0
 Begun xs = (behind (fields xs) ≡ fields (drop (front true xs) xs)) × (1 ≤ front false (drop (front true xs) xs))
 
--- So it is with a byte in front.
+-- Where a field begins behind the separators at the front, one does with a byte more in front.
 begun-more : (b : ℕ) (xs : List ℕ) (t : Bool) → isSeparator b ≡ t → (front true xs < length xs → Begun xs)
     → cond (Bool·beq t true) (suc (front true xs)) 0 < suc (length xs)
     → let ys = drop (cond (Bool·beq t true) (suc (front true xs)) 0) (b ∷ xs) in
@@ -52,13 +52,13 @@ unfolding fields run behind
 begun-more b xs true e more h = let (opens, some) = more (omega arith) in (rw e opens, some)
 begun-more b xs false e more h = (rw e (kept b (fields xs)), rw e (omega arith))
 
--- So it is where a byte stands behind the separators at the front.
+-- Where a byte stands behind the separators at the front, a field begins with it.
 begun : (xs : List ℕ) → front true xs < length xs → Begun xs
 unfolding run
 begun [] h = absurd (omega arith)
 begun (b ∷ xs) h = begun-more b xs (isSeparator b) refl (begun xs) h
 
--- A separator in front of separators is one more.
+-- Where no field stands behind separators, none stands behind one more.
 ended-more : (b : ℕ) (xs : List ℕ) (t : Bool) → isSeparator b ≡ t → (length xs ≤ front true xs → behind (fields xs) ≡ [])
     → suc (length xs) ≤ cond (Bool·beq t true) (suc (front true xs)) 0 → behind (fields (b ∷ xs)) ≡ []
 unfolding fields behind
@@ -78,8 +78,8 @@ pub record Passed (line : List ℕ) (stop count : ℕ) : Type 0 where
   pub some : count ≤ length (fields line)
   pub others : drop count (fields line) ≡ behind (fields (drop stop line))
 
--- It starts behind the first field.
 module _ (line : List ℕ) (stop : ℕ) (e : stop ≡ 0 + front false (drop 0 line)) where
+  -- The walk starts behind the first field.
   pub passed-first : Passed line stop 1
   passed-first =
       let n : stop ≡ front false line = omega arith in
@@ -104,11 +104,11 @@ module _ {line : List ℕ} {stop count : ℕ} (w : Passed line stop count) (next
       let left : length (fields line) - count ≡ 0 = sym (length-drop count (fields line)) ∙ ap length (w .others ∙ none) in
       omega (arith, w .some)
 
-  -- So every later field is empty.
+  -- Where only separators follow, every later field is empty.
   pub later-none : (k n : ℕ) (xs : List ℕ) → length line ≤ next → count ≤ k → take (n - n) xs ≡ fieldAt line k
   later-none k n xs h more = rw sub-self (sym (List·getD-eq-default (fields line) [] (omega (arith, passed-all h))))
 
-  -- Else the next field stands behind them, and is not empty.
+  -- A byte that is no separator stands at `next`: the next field stands from there to `stop′`.
   module _ (stop′ : ℕ) (f : stop′ ≡ next + front false (drop next line)) (h : next < length line) where
     -- The bytes where it begins are those behind the separators.
     moved : drop (front true (drop stop line)) (drop stop line) ≡ drop next line
@@ -126,8 +126,7 @@ module _ {line : List ℕ} {stop count : ℕ} (w : Passed line stop count) (next
     passed-next =
         let u = front false (drop next line) in
         let (one, all) = next-opens in
-        let left : length (fields line) - count ≡ suc (length (behind (fields (drop u (drop next line))))) = sym (length-drop count (fields line)) ∙ ap length all in
-        (
+        let left : length (fields line) - count ≡ suc (length (behind (fields (drop u (drop next line))))) = sym (length-drop count (fields line)) ∙ ap length all in (
           record {
             within = omega (arith, run-within (λ b. Bool·beq (isSeparator b) false) line next (omega arith));
             few = omega (arith, w .few);

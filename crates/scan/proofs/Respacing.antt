@@ -1,7 +1,7 @@
 -- Texts that differ only in how many separators stand where one stood have the same fields, line by line.
 use Prim.Native.Nat.{ℕ, _≤_}
 use mathlib.Core.Path.{_≡_, refl, sym, ap, _∙_}
-use mathlib.Core.Bool.{Bool, true, false, cond, _&&_, _||_, true≢false}
+use mathlib.Core.Bool.{Bool, true, false, cond, _&&_, true≢false}
 use mathlib.Core.List.{List, [], _∷_, _++_, append-nil, map}
 use native.Mathlib.Omega.{arith}
 use lib.Dec.{eqb}
@@ -26,7 +26,7 @@ unfoldable more : ℕ → List (List (List ℕ)) → List (List (List ℕ))
 more b [] = cond (eqb b LF) (([] ∷ []) ∷ []) (withByte b ([] ∷ []) ∷ [])
 more b (fs ∷ rest) = cond (eqb b LF) (([] ∷ []) ∷ (fs ∷ rest)) (withByte b fs ∷ rest)
 
--- They are so by the lines behind it.
+-- A byte put in front of lines changes their fields so.
 more-by : (b : ℕ) (t : Bool) (ls : List (List ℕ)) → eqb b LF ≡ t → map fields (cond t ([] ∷ ls) (inFront b ls)) ≡ more b (map fields ls)
 unfolding fields inFront more withByte
 more-by b true [] e = rw e refl
@@ -34,7 +34,7 @@ more-by b true (l ∷ ls) e = rw e refl
 more-by b false [] e = rw e refl
 more-by b false (l ∷ ls) e = rw e refl
 
--- They are so.
+-- A byte put in front of a text changes the fields of its lines so.
 more-is : (b : ℕ) (xs : List ℕ) → fieldsIn (b ∷ xs) ≡ more b (fieldsIn xs)
 unfolding parts
 more-is b xs = more-by b (eqb b LF) (lines xs) refl
@@ -50,19 +50,19 @@ unfolding isSeparator
 no-lf b true h e = absurd (true≢false (sym h ∙ ap isSeparator (eqb-true b LF e)))
 no-lf b false h e = refl
 
--- They are so.
+-- A separator put in front of a text changes the fields of its lines so.
 spaced-by : (b : ℕ) (fss : List (List (List ℕ))) → isSeparator b ≡ true → more b fss ≡ spaced fss
 unfolding more withByte spaced behind
 spaced-by b [] h = rw (no-lf b (eqb b LF) h refl, h) refl
 spaced-by b (fs ∷ rest) h = rw (no-lf b (eqb b LF) h refl, h) refl
 
--- One separator more changes nothing.
+-- A second separator in front changes nothing more.
 spaced-twice : (fss : List (List (List ℕ))) → spaced (spaced fss) ≡ spaced fss
 unfolding spaced behind
 spaced-twice [] = refl
 spaced-twice (fs ∷ rest) = refl
 
--- Nor do more of them.
+-- One or more separators in front change as much as one.
 some-spaced : (r : List ℕ) → separators r ≡ true → 1 ≤ length r → (xs : List ℕ) → fieldsIn (r ++ xs) ≡ spaced (fieldsIn xs)
 unfolding separators
 some-spaced [] h one xs = absurd (omega arith)
@@ -71,7 +71,7 @@ some-spaced (b ∷ (d ∷ r)) h one xs =
     let (first, others) = both-true (isSeparator b) _ h in
     more-is b _ ∙ spaced-by b _ first ∙ ap spaced (some-spaced (d ∷ r) others (omega arith) xs) ∙ spaced-twice _
 
--- Before an LF not even the first does.
+-- Before an LF any number of them changes nothing.
 before-lf : (r : List ℕ) → separators r ≡ true → (xs : List ℕ) → fieldsIn (r ++ (LF ∷ xs)) ≡ ([] ∷ []) ∷ fieldsIn xs
 unfolding separators spaced behind parts fields
 before-lf [] h xs = refl
@@ -79,7 +79,7 @@ before-lf (b ∷ r) h xs =
     let (first, others) = both-true (isSeparator b) _ h in
     more-is b (r ++ (LF ∷ xs)) ∙ spaced-by b _ first ∙ ap spaced (before-lf r others xs)
 
--- Nor before the end of the text, behind another byte.
+-- Before the text's end, behind another byte, any number of them changes nothing.
 before-end : (b : ℕ) (r : List ℕ) → eqb b LF ≡ false → separators r ≡ true → fieldsIn (b ∷ r) ≡ withByte b ([] ∷ []) ∷ []
 unfolding more spaced parts
 before-end b [] h e = more-is b [] ∙ rw h refl

@@ -3,7 +3,7 @@ use Prim.Native.Nat.{ℕ, suc, _≤_}
 use Prim.Native.Char.{code}
 use mathlib.Core.Path.{_≡_, refl, sym, ap, subst, _∙_}
 use mathlib.Core.Logic.{_⊎_, inl, inr, ⊎-elim}
-use mathlib.Core.Bool.{Bool, true, false, cond, not, _&&_, true≢false}
+use mathlib.Core.Bool.{Bool, true, false, cond, not, true≢false}
 use mathlib.Core.List.{List, [], _∷_, _++_}
 use native.Mathlib.Omega.{arith}
 use lib.Dec.{leb, ltb, eqb, lit≤}
@@ -16,10 +16,10 @@ use Rattle.table.specs.Ascii.{bytes}
 use Rattle.scan.specs.declared.Number.{Number}
 use Rattle.scan.specs.declared.Number.the-variants.{Value, NoNumber}
 use Rattle.scan.specs.Parts.{inFront, parts, lines, beginsWith, isThese, isSeparator, behind, fields}
-use Rattle.scan.specs.Numbers.{isDigit, allDigits, leadingZero, numberForm, decimal, numberIn}
+use Rattle.scan.specs.Numbers.{isDigit, allDigits, leadingZero, numberForm, numberIn}
 use Rattle.scan.specs.Fields.{isLetter}
 use Rattle.text.specs.declared.Kind.{Kind}
-use Rattle.text.specs.declared.Kind.the-variants.{Comment, Problem, Source, Sink, ArcLine, Other}
+use Rattle.text.specs.declared.Kind.the-variants.{Comment, Other}
 use Rattle.text.specs.declared.Progress.{Progress}
 use Rattle.text.specs.declared.Step.{Step}
 use Rattle.text.specs.declared.Step.the-variants.{On, Stop}
@@ -36,16 +36,16 @@ abbrev Plain : List ℕ → Type 0
 Plain [] = Unit {0}
 Plain (b ∷ rest) = (isSeparator b ≡ false) × Plain rest
 
--- Nor is the field empty.
+-- A field is solid: not empty, and no byte of it is a separator.
 abbrev Solid : List ℕ → Type 0
 Solid field = (1 ≤ length field) × Plain field
 
--- So are all fields.
+-- All fields are solid.
 abbrev Solids : List (List ℕ) → Type 0
 Solids [] = Unit {0}
 Solids (f ∷ fs) = Solid f × Solids fs
 
--- So are all but the first, which may be empty.
+-- All fields but the first are solid, which may be empty.
 abbrev Clean : List (List ℕ) → Type 0
 Clean [] = Unit {0}
 Clean (f ∷ fs) = Plain f × Solids fs
@@ -57,7 +57,7 @@ digit-plain b e =
     let low = leb-true 48 b (both-true (leb 48 b) _ e .0) in
     rw (ne-eqb b 32 (λ z. omega arith), ne-eqb b 9 (λ z. omega arith)) refl
 
--- Digits are none.
+-- Digits are no separators.
 digits-plain : (f : List ℕ) → allDigits f ≡ true → Plain f
 unfolding allDigits
 digits-plain [] e = tt
@@ -100,7 +100,7 @@ solid-clean : (fs : List (List ℕ)) → Solids fs → Clean fs
 solid-clean [] h = tt
 solid-clean (f ∷ fs) h = (h .0 .1, h .1)
 
--- A byte in front of a line with the same fields.
+-- A line that has its former fields still, has them with a byte in front.
 same-more : (b : ℕ) (fs gs : List (List ℕ)) (t : Bool) → eqb b (code " ") ≡ t → (Clean gs → fs ≡ gs) → Clean (cond t ([] ∷ gs) (inFront b gs))
     → cond (isSeparator b) ([] ∷ behind fs) (inFront b fs) ≡ cond t ([] ∷ gs) (inFront b gs)
 unfolding inFront isSeparator
@@ -114,7 +114,7 @@ unfolding parts fields
 same-fields [] h = refl
 same-fields (b ∷ rest) h = same-more b (fields rest) (formerFields rest) (eqb b (code " ")) refl (same-fields rest) h
 
--- A former n line of its form has solid fields: by its letter,
+-- Behind two solid fields and its number, a former n line has a letter as its third, or is not of its form.
 end-letter : (x y z : List ℕ) (id : ℕ) (s t : Bool) → isLetter (code "s") z ≡ s → isLetter (code "t") z ≡ t → Solid x → Solid y
     → (endFrom s t (Value id) ≡ Other) ⊎ Solids (x ∷ y ∷ z ∷ [])
 unfolding endFrom isSeparator
@@ -122,14 +122,14 @@ end-letter x y z id true t e f first second = inr (first, (second, (letter-solid
 end-letter x y z id false true e f first second = inr (first, (second, (letter-solid (code "t") z refl f, tt)))
 end-letter x y z id false false e f first second = inl refl
 
--- by its number,
+-- Behind a solid field, a former n line has a number and a letter, or is not of its form.
 end-number : (x y z : List ℕ) (a : Number) → numberIn y ≡ a → Solid x
     → (endFrom (isLetter (code "s") z) (isLetter (code "t") z) a ≡ Other) ⊎ Solids (x ∷ y ∷ z ∷ [])
 unfolding endFrom
 end-number x y z (Value id) e first = end-letter x y z id (isLetter (code "s") z) (isLetter (code "t") z) refl refl first (number-solid y id e)
 end-number x y z NoNumber e first = inl refl
 
--- by how many there are.
+-- The fields of a former n line are solid, or it is not of its form.
 end-solid : (fs : List (List ℕ)) → isLetter (code "n") (getD fs 0 []) ≡ true → (endOf fs ≡ Other) ⊎ Solids fs
 unfolding endOf isSeparator
 end-solid [] h = inl refl
@@ -138,7 +138,7 @@ end-solid (x ∷ (y ∷ [])) h = inl refl
 end-solid (x ∷ (y ∷ (z ∷ []))) h = end-number x y z (numberIn y) refl (letter-solid (code "n") x refl h)
 end-solid (x ∷ (y ∷ (z ∷ (w ∷ more)))) h = inl (rw (ne-eqb (length (x ∷ y ∷ z ∷ w ∷ more)) 3 (λ e. omega arith)) refl)
 
--- So has a former `a` line of its form: by its numbers,
+-- Behind a solid field, a former `a` line has three numbers, or is not of its form.
 arc-number : (x y z w : List ℕ) (a b d : Number) → numberIn y ≡ a → numberIn z ≡ b → numberIn w ≡ d → Solid x
     → (arcFrom a b d ≡ Other) ⊎ Solids (x ∷ y ∷ z ∷ w ∷ [])
 unfolding arcFrom
@@ -147,7 +147,7 @@ arc-number x y z w (Value t) (Value h) NoNumber e f g first = inl refl
 arc-number x y z w (Value t) NoNumber d e f g first = inl refl
 arc-number x y z w NoNumber b d e f g first = inl refl
 
--- by how many there are.
+-- The fields of a former `a` line are solid, or it is not of its form.
 arc-solid : (fs : List (List ℕ)) → isLetter (code "a") (getD fs 0 []) ≡ true → (arcOf fs ≡ Other) ⊎ Solids fs
 unfolding arcOf isSeparator
 arc-solid [] h = inl refl
@@ -157,14 +157,14 @@ arc-solid (x ∷ (y ∷ (z ∷ []))) h = inl refl
 arc-solid (x ∷ (y ∷ (z ∷ (w ∷ [])))) h = arc-number x y z w (numberIn y) (numberIn z) (numberIn w) refl refl refl (letter-solid (code "a") x refl h)
 arc-solid (x ∷ (y ∷ (z ∷ (w ∷ (v ∷ more))))) h = inl (rw (ne-eqb (length (x ∷ y ∷ z ∷ w ∷ v ∷ more)) 4 (λ e. omega arith)) refl)
 
--- A former p line of its form has solid fields behind its fixed bytes, and is one still: by its numbers,
+-- Behind its fixed bytes, a former p line has two numbers, or is not of its form.
 problem-number : (x y : List ℕ) (a b : Number) → numberIn x ≡ a → numberIn y ≡ b → (problemFrom a b ≡ Other) ⊎ Solids (x ∷ y ∷ [])
 unfolding problemFrom
 problem-number x y (Value n) (Value m) e f = inr (number-solid x n e, (number-solid y m f, tt))
 problem-number x y (Value n) NoNumber e f = inl refl
 problem-number x y NoNumber b e f = inl refl
 
--- by how many there are.
+-- The fields of a former p line behind its fixed bytes are solid, and make it one still; or it is not of its form.
 problem-solid : (fs : List (List ℕ)) → (formerProblem fs ≡ Other) ⊎ (Solids fs × (kindFrom (bytes "p" ∷ bytes "max" ∷ fs) ≡ formerProblem fs))
 unfolding formerProblem kindFrom problemOf isThese beginsWith
 problem-solid [] = inl refl
@@ -186,34 +186,29 @@ problem-fields : (rest : List ℕ) → Solids (formerFields rest) → fields (by
 unfolding fields inFront behind isSeparator
 problem-fields rest h = rw (same-fields rest (solid-clean (formerFields rest) h), solid-behind (formerFields rest) h) refl
 
--- A line whose first field is `n` is an n line or none, and one whose first field is `a` an `a` line or none.
+-- Of a line whose first field is `n`, only an n line is looked for.
 end-kind : (fs : List (List ℕ)) → isLetter (code "n") (getD fs 0 []) ≡ true → kindFrom fs ≡ endOf fs
 unfolding kindFrom isThese beginsWith isLetter
 end-kind fs e = rw (letter-is (code "n") (getD fs 0 []) e) refl
 
+-- Of a line whose first field is `a`, only an `a` line is looked for.
 arc-kind : (fs : List (List ℕ)) → isLetter (code "a") (getD fs 0 []) ≡ true → kindFrom fs ≡ arcOf fs
 unfolding kindFrom isThese beginsWith isLetter
 arc-kind fs e = rw (letter-is (code "a") (getD fs 0 []) e) refl
 
 module _ (line : List ℕ) where
-  -- A line that was not of its form, or that is now what it was.
+  -- A line is kept if it was not of its form, or is now what it was.
   abbrev Kept : (former now : Kind) → Type 0
   Kept former now = (former ≡ Other) ⊎ (now ≡ former)
 
-  -- So is a line that is an `a` line or none,
-  kept-arc : (t : Bool) → isLetter (code "a") (getD (formerFields line) 0 []) ≡ t → Kept (cond t (arcOf (formerFields line)) Other) (kindFrom (fields line))
-  kept-arc true e =
-      ⊎-elim inl (λ h. inr (ap kindFrom (same-fields line (solid-clean (formerFields line) h)) ∙ arc-kind (formerFields line) e)) (arc-solid (formerFields line) e)
-  kept-arc false e = inl refl
+  -- A line is kept whose former fields are solid, or make it none of this kind, where its first field is this kind's letter.
+  kept-letter : (of : List (List ℕ) → Kind) (t : Bool) {rest : Kind} → (t ≡ true → (of (formerFields line) ≡ Other) ⊎ Solids (formerFields line))
+      → (t ≡ true → kindFrom (formerFields line) ≡ of (formerFields line)) → Kept rest (kindFrom (fields line))
+      → Kept (cond t (of (formerFields line)) rest) (kindFrom (fields line))
+  kept-letter of true solid kind rest = ⊎-elim inl (λ h. inr (ap kindFrom (same-fields line (solid-clean (formerFields line) h)) ∙ kind refl)) (solid refl)
+  kept-letter of false solid kind rest = rest
 
-  -- or an n line,
-  kept-end : (t : Bool) {rest : Kind} → isLetter (code "n") (getD (formerFields line) 0 []) ≡ t → Kept rest (kindFrom (fields line))
-      → Kept (cond t (endOf (formerFields line)) rest) (kindFrom (fields line))
-  kept-end true e rest =
-      ⊎-elim inl (λ h. inr (ap kindFrom (same-fields line (solid-clean (formerFields line) h)) ∙ end-kind (formerFields line) e)) (end-solid (formerFields line) e)
-  kept-end false e rest = rest
-
-  -- or a p line,
+  -- A line is kept that begins with `p max `.
   kept-problem : (t : Bool) {rest : Kind} → beginsWith (bytes "p max ") line ≡ t → Kept rest (kindFrom (fields line))
       → Kept (cond t (formerProblem (formerFields (drop 6 line))) rest) (kindFrom (fields line))
   kept-problem true e rest =
@@ -222,17 +217,21 @@ module _ (line : List ℕ) where
       (problem-solid (formerFields (drop 6 line)))
   kept-problem false e rest = rest
 
-  -- or a comment.
+  -- A comment is kept.
   kept-comment : (t : Bool) {former now : Kind} → Kept former now → Kept (cond t Comment former) (cond t Comment now)
   kept-comment true rest = inr refl
   kept-comment false rest = rest
 
-  -- So is every line.
+  -- Every line is kept.
   kept-line : Kept (formerKind line) (kindOf line)
   unfolding formerKind kindOf
-  kept-line = kept-comment (beginsWith (bytes "c") line) (kept-problem (beginsWith (bytes "p max ") line) refl (kept-end _ refl (kept-arc _ refl)))
+  kept-line =
+      let fs = formerFields line in
+      let arc = kept-letter arcOf (isLetter (code "a") (getD fs 0 [])) (arc-solid fs) (arc-kind fs) (inl refl) in
+      let end = kept-letter endOf (isLetter (code "n") (getD fs 0 [])) (end-solid fs) (end-kind fs) arc in
+      kept-comment (beginsWith (bytes "c") line) (kept-problem (beginsWith (bytes "p max ") line) refl end)
 
--- Lines of which the former rule made a table make it still: by what the first line does,
+-- Where the lines behind a line make a table still, so they do with that line, by what it does.
 kept-onwards : (s : Step) (rest : List (List ℕ)) (q : Progress) (place : ℕ)
     → ((r : Progress) (k : ℕ) → formerJudge rest r k ≡ Table q → (judge rest r k ≡ Table q) × (arcsOf rest ≡ formerArcs rest))
     → onwards s place (formerJudge rest) ≡ Table q → (onwards s place (judge rest) ≡ Table q) × (arcsOf rest ≡ formerArcs rest)
@@ -240,12 +239,12 @@ unfolding onwards
 kept-onwards (On r) rest q place more e = more r (suc place) e
 kept-onwards (Stop name) rest q place more e = absurd (let z : _≡_ {A = ℕ} 0 1 = cc in omega arith)
 
--- where a line not of its form makes none,
+-- A line not of its form makes no table.
 stops : (p q : Progress) (place : ℕ) (rest : Progress → ℕ → Judged) → onwards (stepOf p Other) place rest ≡ Table q → ⊥
 unfolding onwards stepOf
 stops p q place rest e = let z : _≡_ {A = ℕ} 0 1 = cc in omega arith
 
--- and by every line.
+-- Lines of which the former rule made a table make it still, and have the same arcs.
 kept-judged : (ls : List (List ℕ)) (p q : Progress) (place : ℕ) → formerJudge ls p place ≡ Table q → (judge ls p place ≡ Table q) × (arcsOf ls ≡ formerArcs ls)
 unfolding formerJudge judge formerArcs arcsOf
 kept-judged [] p q place e = (e, refl)
@@ -253,22 +252,22 @@ kept-judged (line ∷ rest) p q place e =
     ⊎-elim
     (λ other. absurd (stops p q place (formerJudge rest) (ap (λ (k : Kind). onwards (stepOf p k) place (formerJudge rest)) (sym other) ∙ e)))
     (λ now.
-        let (judged, arcs) = kept-onwards (stepOf p (formerKind line)) rest q place (λ r k. kept-judged rest r q k) e in
-        (ap (λ (k : Kind). onwards (stepOf p k) place (judge rest)) now ∙ judged, ap (λ (k : Kind). arcIn k ++ arcsOf rest) now ∙ ap (λ (arcs : List Arc). arcIn (formerKind line) ++ arcs) arcs))
+    let (judged, arcs) = kept-onwards (stepOf p (formerKind line)) rest q place (λ r k. kept-judged rest r q k) e in
+    (ap (λ (k : Kind). onwards (stepOf p k) place (judge rest)) now ∙ judged, ap (λ (k : Kind). arcIn k ++ arcsOf rest) now ∙ ap (λ (arcs : List Arc). arcIn (formerKind line) ++ arcs) arcs))
     (kept-line line)
 
--- A text that was read was not too long,
+-- A text that was read was not too long.
 not-long : (t : Bool) (rest : Given) {n m s k : ℕ} → cond t (Refusal Long 0) rest ≡ Read n m s k → (t ≡ false) × (rest ≡ Read n m s k)
 not-long true rest e = absurd (let z : _≡_ {A = ℕ} 0 1 = cc in omega arith)
 not-long false rest e = (refl, e)
 
--- and its lines made a table,
+-- The lines of a text that was read made a table.
 made-table : (arcs : List Arc) (j : Judged) (tails heads capacities : ℕ) {n m s t : ℕ} → formerAfter arcs j tails heads capacities ≡ Read n m s t → (p : Progress) × (j ≡ Table p)
 unfolding formerAfter
 made-table arcs (Table p) tails heads capacities e = (p, refl)
 made-table arcs (Fault name place) tails heads capacities e = absurd (let z : _≡_ {A = ℕ} 0 1 = cc in omega arith)
 
--- which gives what it gave, whatever the checks of the table say.
+-- Lines of which the former rule made a table give what they gave, whatever the checks of the table say.
 kept-given : (ls : List (List ℕ)) (p : Progress) (tails heads capacities : ℕ) → formerJudge ls fresh 1 ≡ Table p
     → (afterJudging ls (judge ls fresh 1) tails heads capacities ≡ formerAfter (formerArcs ls) (formerJudge ls fresh 1) tails heads capacities) × (arcsOf ls ≡ formerArcs ls)
 unfolding afterJudging tableVerdict formerAfter

@@ -8,6 +8,7 @@ use lib.ListN.{length, getD}
 use borrow.Author.Tests.{le-ltb}
 use Rattle.table.specs.declared.Arc.{Arc}
 use Rattle.table.specs.Ascii.{bytes}
+use Rattle.table.specs.Table.{tailsOf, headsOf, capacitiesOf}
 use Rattle.scan.specs.Parts.{lines, beginsWith, isSeparator, fields}
 use Rattle.scan.specs.Spacing.{Respaced}
 use Rattle.scan.proofs.Respacing.{respaced-fields, first-byte}
@@ -18,7 +19,8 @@ use Rattle.text.specs.declared.Step.{Step}
 use Rattle.text.specs.declared.Step.the-variants.{On, Stop}
 use Rattle.text.specs.declared.Judged.{Judged}
 use Rattle.text.specs.Lines.{kindFrom, kindOf, stepOf, onwards, fresh, judge, arcIn, arcsOf}
-use Rattle.text.specs.Reading.{tableVerdict, afterJudging, givenBy}
+use Rattle.text.specs.Reading.{tableVerdict, afterJudging, givenBy, valuesOf, rowAfter, Reads}
+use Rattle.text.specs.declared.Given.{Given}
 use Rattle.text.specs.declared.Judged.the-variants.{Table, Fault}
 
 -- What a line is hangs on its fields alone.
@@ -30,7 +32,7 @@ kind-by line = rw (first-byte 99 refl line) refl
 same-kind : (x y : List ℕ) → fields x ≡ fields y → kindOf x ≡ kindOf y
 same-kind x y e = kind-by x ∙ ap (λ (fs : List (List ℕ)). cond (beginsWith (bytes "c") (getD fs 0 [])) Comment (kindFrom fs)) e ∙ sym (kind-by y)
 
--- What a line does, and what is found behind it.
+-- What a line does, and what the lines behind it do, where they do the same.
 same-onwards : (s : Step) (place : ℕ) (f g : Progress → ℕ → Judged) → ((p : Progress) (k : ℕ) → f p k ≡ g p k) → onwards s place f ≡ onwards s place g
 unfolding onwards
 same-onwards (On p) place f g e = e p (suc place)
@@ -50,8 +52,7 @@ same-judged (x ∷ xs) (y ∷ ys) e =
     let first : fields x ≡ fields y = cc in
     let others : map fields xs ≡ map fields ys = cc in
     let kind = same-kind x y first in
-    let (judged, arcs) = same-judged xs ys others in
-    (
+    let (judged, arcs) = same-judged xs ys others in (
       λ p place. ap (λ (k : Kind). onwards (stepOf p k) place (judge xs)) kind ∙ same-onwards (stepOf p (kindOf y)) place (judge xs) (judge ys) judged,
       ap (λ (k : Kind). arcIn k ++ arcsOf xs) kind ∙ ap (λ (rest : List Arc). arcIn (kindOf y) ++ rest) arcs,
     )
@@ -71,3 +72,16 @@ respaced-same {xs} {ys} r h k tails heads capacities =
     let (judged, arcs) = same-judged (lines xs) (lines ys) (respaced-fields r) in
     let after = same-after (lines xs) (lines ys) arcs (judge (lines ys) fresh 1) tails heads capacities in
     (rw (le-ltb 1048576 (length xs) h, le-ltb 1048576 (length ys) k, judged fresh 1) after, arcs)
+
+-- So what reading the one promises, with what it leaves in the arc rows, reading the other does.
+pub respaced-reads : {xs ys : List ℕ} → Respaced xs ys → length xs ≤ 1048576 → length ys ≤ 1048576
+    → {tails heads capacities tails′ heads′ capacities′ : List ℕ} {given : Given}
+    → Reads xs tails heads capacities given tails′ heads′ capacities′ → Reads ys tails heads capacities given tails′ heads′ capacities′
+respaced-reads {xs} {ys} r h k {tails} {heads} {capacities} {given} promised =
+    let (gives, arcs) = respaced-same r h k (length tails) (length heads) (length capacities) in
+    record {
+      gives = promised .gives ∙ gives;
+      tails-hold = promised .tails-hold ∙ ap (λ (arcs : List Arc). rowAfter (valuesOf given) (tailsOf arcs) tails) arcs;
+      heads-hold = promised .heads-hold ∙ ap (λ (arcs : List Arc). rowAfter (valuesOf given) (headsOf arcs) heads) arcs;
+      capacities-hold = promised .capacities-hold ∙ ap (λ (arcs : List Arc). rowAfter (valuesOf given) (capacitiesOf arcs) capacities) arcs;
+    }

@@ -1,5 +1,5 @@
 -- `are_these` meets its contract: by how many bytes there are, and then by the bytes.
-use mathlib.Core.Path.{_∙_, refl}
+use mathlib.Core.Path.{refl}
 use lib.ListN.{length}
 use denote.Ref.{now}
 use borrow.Author.Tests.{eq-eqb, ne-eqb}

@@ -1,6 +1,6 @@
 -- `run_end` meets its contract: the bytes at the front from `from` on are those passed and those from `at` on.
 use Prim.Native.Nat.{_+_, _-_}
-use mathlib.Core.Path.{_≡_, refl, sym, ap, _∙_}
+use mathlib.Core.Path.{_≡_, refl, sym, _∙_}
 use mathlib.Core.Bool.{true, false, not, Bool·beq}
 use native.Mathlib.Omega.{arith}
 use lib.ListN.{length, drop}
