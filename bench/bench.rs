@@ -1,11 +1,11 @@
-//! Milliseconds of the proved solver and of the independent program on the families of docs/FAMILIES.md, in one run.
+//! CPU milliseconds of the proved solver, of the yardstick and of the independent program on the families of docs/FAMILIES.md, in one run.
 
 use judge::compare::tables::OwnTable;
 use judge::families::{Family, FAMILIES};
 use judge::solve::{solve, work_need, Answer};
 use std::time::Instant;
 
-/// A table that took so many seconds is not run again.
+/// What took so many seconds is not run again.
 const ENOUGH: u64 = 5;
 
 /// The lent rows of one solver, cleared.
@@ -104,45 +104,96 @@ fn solve_independent(table: &OwnTable, rows: &mut Rows) -> Answer {
     solve(&table.lent(), 0, &mut rows.flow, &mut rows.side, &mut rows.work)
 }
 
-/// What one call gives, and the milliseconds that it takes.
-fn timed<T>(call: impl FnOnce() -> T) -> (T, f64) {
-    let began = Instant::now();
-    let given = call();
-    (given, began.elapsed().as_secs_f64() * 1000.0)
+#[link(name = "yardstick", kind = "static")]
+extern "C" {
+    #[rustfmt::skip]
+    fn yardstick(
+        n: u32,
+        s: u32,
+        t: u32,
+        m: u32,
+        tails: *const u32,
+        heads: *const u32,
+        capacities: *const u32,
+        flow: *mut u32,
+        counts: *mut u64,
+    );
 }
 
-/// Times both solvers in turn, shows that they answer the same, and prints the least times.
+/// Solves by the yardstick: fills the flow row, and gives the three counts.
+#[rustfmt::skip]
+fn solve_yardstick(table: &OwnTable, flow: &mut [u32]) -> [u64; 3] {
+    let OwnTable { n, s, t, tails, heads, capacities } = table;
+    let mut counts = [0; 3];
+    unsafe {
+        yardstick(
+            *n, *s, *t, tails.len() as u32,
+            tails.as_ptr(), heads.as_ptr(), capacities.as_ptr(),
+            flow.as_mut_ptr(), counts.as_mut_ptr(),
+        )
+    };
+    counts
+}
+
+extern "C" {
+    /// C's: microseconds of this process on a processor, so that other work on the machine does not count.
+    fn clock() -> std::ffi::c_long;
+}
+
+/// What one call gives; `least` is the least of the milliseconds so far and those that it takes.
+fn timed<T>(least: &mut f64, call: impl FnOnce() -> T) -> T {
+    let began = unsafe { clock() };
+    let given = call();
+    *least = least.min((unsafe { clock() } - began) as f64 / 1000.0);
+    given
+}
+
+/// Times the solvers, the yardstick and the proved one in turn, shows that they answer the same, and prints the least times.
 fn measure(family: Family, n: u32, m: u32, times: u32) {
     let table = family.table(n, m);
     let (mut ours, mut theirs) = (Rows::of(&table), Rows::of(&table));
-    let (mut least, mut least_proved) = (f64::INFINITY, f64::INFINITY);
-    let mut steps = 0;
+    let [mut least, mut least_yardstick, mut least_proved] = [f64::INFINITY; 3];
     let began = Instant::now();
-    for time in 0..times {
-        if time > 0 && began.elapsed().as_secs() >= ENOUGH {
-            break;
+    let mut answer = timed(&mut least, || solve_independent(&table, &mut theirs));
+    for _ in 1..times {
+        if began.elapsed().as_secs() < ENOUGH {
+            answer = timed(&mut least, || solve_independent(&table, &mut theirs));
         }
-        let (answer, took) = timed(|| solve_independent(&table, &mut theirs));
-        least = least.min(took);
-        steps = answer.saturating + answer.nonsaturating + answer.relabels;
-        let (proved, took) = timed(|| proved::solve(&table, &mut ours));
-        if let Some(proved) = proved {
+    }
+    for _ in 0..times {
+        let counts = timed(&mut least_yardstick, || solve_yardstick(&table, &mut ours.flow));
+        assert_eq!(
+            counts,
+            [answer.saturating, answer.nonsaturating, answer.relabels],
+            "{family:?}"
+        );
+        assert_eq!(ours.flow, theirs.flow, "{family:?}");
+        let mut took = f64::INFINITY;
+        if let Some(proved) = timed(&mut took, || proved::solve(&table, &mut ours)) {
             least_proved = least_proved.min(took);
             assert_eq!(proved, answer, "{family:?}");
             assert_eq!((&ours.flow, &ours.side), (&theirs.flow, &theirs.side), "{family:?}");
         }
     }
+    let steps = answer.saturating + answer.nonsaturating + answer.relabels;
     let proved = match least_proved.is_finite() {
-        true => format!("{least_proved:.2} | {:.2}", least_proved / least),
-        false => "- | -".to_string(),
+        true => format!(
+            "{least_proved:.2} | {:.2} | {:.0}",
+            least_proved / least_yardstick,
+            steps as f64 * 1000.0 / least_proved
+        ),
+        false => "- | - | -".to_string(),
     };
-    println!("| {} | {n} | {m} | {steps} | {least:.2} | {proved} |", family.word());
+    println!(
+        "| {} | {n} | {m} | {steps} | {least:.2} | {least_yardstick:.2} | {proved} |",
+        family.word()
+    );
 }
 
 fn main() {
-    let times = std::env::args().nth(1).and_then(|word| word.parse().ok()).unwrap_or(3);
-    println!("| family | n | m | steps | independent, ms | proved, ms | ratio |");
-    println!("|---|---|---|---|---|---|---|");
+    let times = std::env::args().nth(1).and_then(|word| word.parse().ok()).unwrap_or(9);
+    println!("| family | n | m | steps | independent, ms | yardstick, ms | proved, ms | proved / yardstick | steps a second |");
+    println!("|---|---|---|---|---|---|---|---|---|");
     for n in [64, 128, 256, 512] {
         for family in FAMILIES {
             measure(family, n, 8 * n, times);

@@ -52,19 +52,19 @@ module _ (t : Table) (st : State) (i : ℕ) where
   found-missing l e = subst (Finds l) e (finds l)
 
   -- One place does not raise the least label.
-  lesser-le : (k best : ℕ) → lesser t st i k best ≤ best
+  pub lesser-le : (k best : ℕ) → lesser t st i k best ≤ best
   lesser-le k best =
       by-cond (λ x. x ≤ best) (ltb 0 (residual t (st .flow) i k)) (min best (atNode (st .label) (far t i k))) best
       (λ _. omega arith) (λ _. omega arith)
 
   -- Where it has residual, the least label is at most its far end's.
-  lesser-far : (k best : ℕ) → 0 < residual t (st .flow) i k → lesser t st i k best ≤ atNode (st .label) (far t i k)
+  pub lesser-far : (k best : ℕ) → 0 < residual t (st .flow) i k → lesser t st i k best ≤ atNode (st .label) (far t i k)
   lesser-far k best some =
       by-cond (λ x. x ≤ atNode (st .label) (far t i k)) (ltb 0 (residual t (st .flow) i k)) (min best (atNode (st .label) (far t i k))) best
       (λ _. omega arith) (λ e. absurd (omega (arith, ltb-false 0 (residual t (st .flow) i k) e)))
 
   -- The least label of a list is at most the one that it began with,
-  least-le : (l : List ℕ) (best : ℕ) → leastFar t st i l best ≤ best
+  pub least-le : (l : List ℕ) (best : ℕ) → leastFar t st i l best ≤ best
   unfolding leastFar
   least-le [] best = omega arith
   least-le (k ∷ l) best = omega (arith, least-le l (lesser t st i k best), lesser-le k best)
@@ -116,7 +116,7 @@ module _ (t : Table) (st : State) (i : ℕ) where
   at-far-end-on k x l r = record { place = r .place; member = List·Memᴰ·tail (r .member); left = r .left; label = r .label }
 
   -- The least is the far label of a residual member, or the one that it began with.
-  least-is : (l : List ℕ) (best : ℕ) → (leastFar t st i l best ≡ best) ⊎ AtFarEnd l (leastFar t st i l best)
+  pub least-is : (l : List ℕ) (best : ℕ) → (leastFar t st i l best ≡ best) ⊎ AtFarEnd l (leastFar t st i l best)
   unfolding leastFar
   least-is [] best = inl refl
   least-is (k ∷ l) best =

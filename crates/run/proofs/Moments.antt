@@ -59,11 +59,13 @@ module _ (t : Table) (ok : Accepted t) (d : ℕ) (l : d < phaseCount t) where
       record { trail = no-trail t (deltaAfter t d) (after t d) (before .fits); rest = ap (λ n. phaseFor t (deltaAfter t d) n (after t d)) same }
 
   module _ (now : Run) (size : ℕ) (moment : Moment t d now size) where
-    -- At each moment the rows are in order.
+    -- At each moment the theory's facts hold,
+    pub moment-facts : FactsOf t (deltaAfter t d) (now .state)
+    moment-facts = trail-facts t ok (deltaAfter t d) (after t d) (course-facts t ok d before) now size (moment .trail)
+
+    -- and the rows are in order.
     pub moment-in-phase : InPhase t (deltaAfter t d) (now .state)
-    moment-in-phase =
-        facts-in-phase t ok (deltaAfter t d) (now .state) (moment .trail .fits)
-        (trail-facts t ok (deltaAfter t d) (after t d) (course-facts t ok d before) now size (moment .trail))
+    moment-in-phase = facts-in-phase t ok (deltaAfter t d) (now .state) (moment .trail .fits) moment-facts
 
     -- A node is chosen: it is one of 1 to n,
     pub moment-node : (i : ℕ) → choose t (deltaAfter t d) (now .state) ≡ Node i → NodeOf (t .nodes) i

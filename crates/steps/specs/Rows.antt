@@ -1,26 +1,31 @@
 -- What the parts of the run find in rows and leave in them: for the contracts of functions over bare rows.
-use Prim.Native.Nat.{ℕ, _-_, _<_}
+use Prim.Native.Nat.{ℕ, _<_}
 use mathlib.Core.Path.{_≡_}
-use mathlib.Core.Bool.{Bool}
-use mathlib.Core.List.{List}
-use Rattle.rows.specs.Row.{Node as NodeOf}
-use Rattle.table.specs.Table.{Table}
+use mathlib.Core.Bool.{Bool, true}
+use mathlib.Core.List.{List, []}
+use lib.ListN.{length}
+use Rattle.rows.specs.Row.{atPlace}
+use Rattle.table.specs.Table.{Table, tableOf}
+use Rattle.arcs.specs.Residual.{touches}
 use Rattle.run.specs.Start.{State}
-use Rattle.run.specs.Push.{saturates, push}
-use Rattle.run.specs.declared.Choice.{Choice}
-use Rattle.run.specs.declared.Choice.the-variants.{Node, Nothing}
-use Rattle.run.specs.declared.Found.{Found}
-use Rattle.run.specs.declared.Found.the-variants.{Place, Missing}
+use Rattle.run.specs.Push.{eligible, saturates, push}
+use Rattle.looking.specs.Looked.{NoneBefore}
+use Rattle.steps.specs.declared.Spot.{Spot}
+use Rattle.steps.specs.declared.Spot.the-variants.{At, End}
 
--- A choice among nodes 1 to n names one of them, if any.
-abbrev pub Chosen : ℕ → Choice → Type 0
-Chosen n Nothing = Unit {0}
-Chosen n (Node i) = NodeOf n i
+-- Whether the arc at place k touches node i, by these two rows alone.
+abbrev pub touching : (tails heads : List ℕ) → ℕ → ℕ → Bool
+touching tails heads i k = touches (tableOf 0 0 0 tails heads []) i k
 
--- A place that was found is below m, if any was.
-abbrev pub FoundIn : ℕ → Found → Type 0
-FoundIn m Missing = Unit {0}
-FoundIn m (Place k) = k < m
+-- Every number of a list is a place below m, of an arc that touches node i.
+abbrev pub AllTouch : ℕ → (tails heads : List ℕ) → ℕ → List ℕ → Type 0
+AllTouch m tails heads i list = (j : ℕ) → j < length list → (atPlace list j < m) × (touching tails heads i (atPlace list j) ≡ true)
+
+-- Where the search of node i's list stopped: at position p, where place k stands, the first eligible; or at the end, with none eligible.
+abbrev pub SpotIs : Table → State → ℕ → List ℕ → Spot → Type 0
+SpotIs t st i places (At p k) =
+    (p < length places) × (k ≡ atPlace places p) × NoneBefore t st i places p × (eligible t st i k ≡ true)
+SpotIs t st i places End = NoneBefore t st i places (length places)
 
 -- What a push leaves: the flow row, the excess row, and whether it was saturating.
 pub record Pushed (t : Table) (delta : ℕ) (st : State) (i k : ℕ) (flow excess : List ℕ) (full : Bool) : Type 0 where

@@ -1,33 +1,41 @@
-// The parts of a step over bare rows: choice, search, push and relabel.
-use run::Choice;
+// The parts of a step over bare rows: search, push and relabel.
 use run::Counts;
-use run::Found;
 ghost use mathlib.Core.Path.{_≡_};
+ghost use mathlib.Core.Bool.{true};
 ghost use mathlib.Core.List.{List};
 ghost use Prim.Native.Nat.{ℕ, _+_, _-_, _*_, _^_, _≤_, _<_, min};
 ghost use lib.ListN.{length};
 ghost use Rattle.rows.specs.Row.{Node, atPlace, atNode};
 ghost use Rattle.table.specs.Table.{tableOf};
-ghost use Rattle.table.specs.Accepted.{ArcRows};
-ghost use Rattle.arcs.specs.Residual.{far, residual, Places};
-ghost use Rattle.run.specs.Choice.{lower, chooseTo};
-ghost use Rattle.run.specs.Push.{eligible, firstEligible, amount, along, moved};
+ghost use Rattle.table.specs.Accepted.{ArcEnds, ArcRows};
+ghost use Rattle.arcs.specs.Residual.{far, residual};
+ghost use Rattle.run.specs.Push.{eligible, amount, along, moved};
 ghost use Rattle.run.specs.Relabel.{lesser, leastFar};
 ghost use Rattle.run.specs.Phase.{onePush, oneRelabel};
 ghost use Rattle.run.specs.Rows.{stateOf, steps, AtMost, WithinCapacities};
 ghost use Rattle.rows.specs.Sum.{total};
-ghost use Rattle.steps.specs.Rows.{Chosen, FoundIn, Pushed};
+ghost use Rattle.looking.specs.Looked.{NoneBefore, HighBefore};
+ghost use Rattle.steps.specs.Rows.{touching, AllTouch, SpotIs, Pushed};
 
-// The end of the arc at place k that is not i.
-fn far(tails: &[u32], heads: &[u32], i: u32, k: u32) -> u32
-    requires { ⌜ (k < length (now tails)) × (k < length (now heads)) ⌝ }
+// Where the arc search stopped: at a position of the node's list and the place that stands there, or at the end.
+pub enum Spot {
+    At(u32, u32),
+    End,
+}
+
+// The least label met in a node's list, and the position where it was first met.
+pub struct Lowest {
+    pub label: u32,
+    pub at: u32,
+}
+
+// The end of the arc at place k that is not i: what both ends add up to, less i.
+pub fn far(tails: &[u32], heads: &[u32], i: u32, k: u32) -> u32
+    requires { ⌜ ((n : ℕ) × ArcEnds n (now tails) (now heads)) ⌝ }
+    requires { ⌜ (k < length (now tails)) × (touching (now tails) (now heads) i k ≡ true) ⌝ }
     ensures { λ r. ⌜ ((n s t : ℕ) (capacities : List ℕ) → r ≡ far (tableOf n s t (now (tails .entry)) (now (heads .entry)) capacities) i k) ⌝ }
 {
-    let tail = tails[k as usize];
-    if tail == i {
-        return heads[k as usize];
-    }
-    tail
+    tails[k as usize] + heads[k as usize] - i
 }
 
 // What can still go along the arc at place k away from i.
@@ -43,7 +51,7 @@ fn residual(tails: &[u32], capacities: &[u32], flow: &[u32], i: u32, k: u32) -> 
     flow[k as usize]
 }
 
-// Whether the arc at place k, away from i, has residual above 0 and a far end exactly one lower.
+// Whether the arc at place k, away from i, has a far end exactly one lower, which few have, and residual above 0.
 fn eligible(
     tails: &[u32],
     heads: &[u32],
@@ -55,18 +63,17 @@ fn eligible(
 ) -> bool
     requires { ⌜ ArcRows (length (now labels)) (now tails) (now heads) (now capacities) ⌝ }
     requires { ⌜ WithinCapacities (now capacities) (now flow) ⌝ }
-    requires { ⌜ Node (length (now labels)) i × (k < length (now capacities)) ⌝ }
+    requires { ⌜ Node (length (now labels)) i × (k < length (now capacities)) × (touching (now tails) (now heads) i k ≡ true) ⌝ }
     ensures { λ r. ⌜ ((n s t : ℕ) (excess : List ℕ) → r ≡ eligible (tableOf n s t (now (tails .entry)) (now (heads .entry)) (now (capacities .entry))) (stateOf (now (flow .entry)) excess (now (labels .entry))) i k) ⌝ }
 {
-    let left = residual(tails, capacities, flow, i, k);
-    if left == 0 {
-        return false;
+    let there = rows::wide(rows::at_node(labels, far(tails, heads, i, k)));
+    if there + 1 == rows::wide(rows::at_node(labels, i)) {
+        return 0 < residual(tails, capacities, flow, i, k);
     }
-    let j = far(tails, heads, i, k);
-    rows::wide(rows::at_node(labels, j)) + 1 == rows::wide(rows::at_node(labels, i))
+    false
 }
 
-// The first eligible place of node i's list.
+// The first eligible place of node i's list, which has none before position `from`.
 pub fn search(
     tails: &[u32],
     heads: &[u32],
@@ -75,25 +82,26 @@ pub fn search(
     labels: &[u32],
     list: &[u32],
     i: u32,
-) -> Found
+    from: u32,
+) -> Spot
     requires { ⌜ ArcRows (length (now labels)) (now tails) (now heads) (now capacities) ⌝ }
     requires { ⌜ WithinCapacities (now capacities) (now flow) ⌝ }
-    requires { ⌜ Node (length (now labels)) i × Places (length (now capacities)) (now list) ⌝ }
-    ensures { λ r. ⌜ ((n s t : ℕ) (excess : List ℕ) → r ≡ firstEligible (tableOf n s t (now (tails .entry)) (now (heads .entry)) (now (capacities .entry))) (stateOf (now (flow .entry)) excess (now (labels .entry))) i (now (list .entry))) ⌝ }
-    ensures { λ r. ⌜ FoundIn (length (now (capacities .entry))) r ⌝ }
+    requires { ⌜ Node (length (now labels)) i × AllTouch (length (now capacities)) (now tails) (now heads) i (now list) ⌝ }
+    requires { ⌜ (from ≤ length (now list)) × (length (now list) < 2 ^ 32) ⌝ }
+    ensures { λ r. ⌜ ((n s t : ℕ) (excess : List ℕ) → NoneBefore (tableOf n s t (now (tails .entry)) (now (heads .entry)) (now (capacities .entry))) (stateOf (now (flow .entry)) excess (now (labels .entry))) i (now (list .entry)) from → SpotIs (tableOf n s t (now (tails .entry)) (now (heads .entry)) (now (capacities .entry))) (stateOf (now (flow .entry)) excess (now (labels .entry))) i (now (list .entry)) r) ⌝ }
 {
-    let mut j = 0;
+    let mut j = from as usize;
     while j < list.len() {
         let k = list[j];
         if eligible(tails, heads, capacities, flow, labels, i, k) {
-            return Found::Place(k);
+            return Spot::At(j as u32, k);
         }
         j += 1;
     }
-    Found::Missing
+    Spot::End
 }
 
-// The label at the far end of the arc at place k, where it has residual away from i and that label is below `best`; else `best`.
+// The label at the far end of the arc at place k, where that is below `best`, which few are, and the arc has residual away from i; else `best`.
 fn lesser(
     tails: &[u32],
     heads: &[u32],
@@ -106,23 +114,33 @@ fn lesser(
 ) -> u32
     requires { ⌜ ArcRows (length (now labels)) (now tails) (now heads) (now capacities) ⌝ }
     requires { ⌜ WithinCapacities (now capacities) (now flow) ⌝ }
-    requires { ⌜ k < length (now capacities) ⌝ }
+    requires { ⌜ (k < length (now capacities)) × (touching (now tails) (now heads) i k ≡ true) ⌝ }
     ensures { λ r. ⌜ ((n s t : ℕ) (excess : List ℕ) → r ≡ lesser (tableOf n s t (now (tails .entry)) (now (heads .entry)) (now (capacities .entry))) (stateOf (now (flow .entry)) excess (now (labels .entry))) i k best) ⌝ }
     ensures { λ r. ⌜ r ≤ best ⌝ }
 {
+    let label = rows::at_node(labels, far(tails, heads, i, k));
+    if best <= label {
+        return best;
+    }
     let left = residual(tails, capacities, flow, i, k);
     if left == 0 {
         return best;
     }
-    let label = rows::at_node(labels, far(tails, heads, i, k));
-    if label < best {
-        return label;
-    }
-    best
+    label
 }
 
-// The least of `best` and the labels at far ends of residual arcs in node i's list.
-pub fn least_far(
+// Position j where the label found there is less than the least so far; else the position `at` where that was met.
+fn met(label: u32, least: u32, at: u32, j: u32) -> u32
+    ensures { λ r. ⌜ (label < least → r ≡ j) × (least ≤ label → r ≡ at) ⌝ }
+{
+    if label < least {
+        return j;
+    }
+    at
+}
+
+// The least of `best` and the labels at far ends of residual arcs in node i's list, and where it was first met.
+fn least_far(
     tails: &[u32],
     heads: &[u32],
     capacities: &[u32],
@@ -131,24 +149,31 @@ pub fn least_far(
     list: &[u32],
     i: u32,
     best: u32,
-) -> u32
+) -> Lowest
     requires { ⌜ ArcRows (length (now labels)) (now tails) (now heads) (now capacities) ⌝ }
     requires { ⌜ WithinCapacities (now capacities) (now flow) ⌝ }
-    requires { ⌜ Places (length (now capacities)) (now list) ⌝ }
-    ensures { λ r. ⌜ ((n s t : ℕ) (excess : List ℕ) → r ≡ leastFar (tableOf n s t (now (tails .entry)) (now (heads .entry)) (now (capacities .entry))) (stateOf (now (flow .entry)) excess (now (labels .entry))) i (now (list .entry)) best) ⌝ }
-    ensures { λ r. ⌜ r ≤ best ⌝ }
+    requires { ⌜ AllTouch (length (now capacities)) (now tails) (now heads) i (now list) × (length (now list) < 2 ^ 32) ⌝ }
+    ensures { λ r. ⌜ (r .label ≤ best) × (r .at ≤ length (now (list .entry))) ⌝ }
+    ensures { λ r. ⌜ ((n s t : ℕ) (excess : List ℕ) → r .label ≡ leastFar (tableOf n s t (now (tails .entry)) (now (heads .entry)) (now (capacities .entry))) (stateOf (now (flow .entry)) excess (now (labels .entry))) i (now (list .entry)) best) ⌝ }
+    ensures { λ r. ⌜ ((n s t : ℕ) (excess : List ℕ) → HighBefore (tableOf n s t (now (tails .entry)) (now (heads .entry)) (now (capacities .entry))) (stateOf (now (flow .entry)) excess (now (labels .entry))) i (now (list .entry)) (r .at) (r .label + 1)) ⌝ }
 {
     let mut least = best;
+    let mut at: u32 = 0;
     let mut j = 0;
     while j < list.len() {
         let k = list[j];
-        least = lesser(tails, heads, capacities, flow, labels, i, k, least);
+        let label = lesser(tails, heads, capacities, flow, labels, i, k, least);
+        at = met(label, least, at, j as u32);
+        least = label;
         j += 1;
     }
-    least
+    Lowest {
+        label: least,
+        at: at,
+    }
 }
 
-// Node i's label after a relabel: one more than the least label among far ends of its residual arcs.
+// Node i's label after a relabel, one more than the least label among far ends of its residual arcs, and the position of the first arc that leads so low.
 pub fn new_label(
     tails: &[u32],
     heads: &[u32],
@@ -157,49 +182,20 @@ pub fn new_label(
     labels: &[u32],
     list: &[u32],
     i: u32,
-) -> u32
+) -> Lowest
     requires { ⌜ ArcRows (length (now labels)) (now tails) (now heads) (now capacities) ⌝ }
     requires { ⌜ WithinCapacities (now capacities) (now flow) ⌝ }
-    requires { ⌜ Places (length (now capacities)) (now list) ⌝ }
-    ensures { λ r. ⌜ ((s t : ℕ) (excess : List ℕ) → r ≡ leastFar (tableOf (length (now (labels .entry))) s t (now (tails .entry)) (now (heads .entry)) (now (capacities .entry))) (stateOf (now (flow .entry)) excess (now (labels .entry))) i (now (list .entry)) (2 * length (now (labels .entry))) + 1) ⌝ }
+    requires { ⌜ AllTouch (length (now capacities)) (now tails) (now heads) i (now list) × (length (now list) < 2 ^ 32) ⌝ }
+    ensures { λ r. ⌜ r .at ≤ length (now (list .entry)) ⌝ }
+    ensures { λ r. ⌜ ((s t : ℕ) (excess : List ℕ) → r .label ≡ leastFar (tableOf (length (now (labels .entry))) s t (now (tails .entry)) (now (heads .entry)) (now (capacities .entry))) (stateOf (now (flow .entry)) excess (now (labels .entry))) i (now (list .entry)) (2 * length (now (labels .entry))) + 1) ⌝ }
+    ensures { λ r. ⌜ ((n s t : ℕ) (excess : List ℕ) → HighBefore (tableOf n s t (now (tails .entry)) (now (heads .entry)) (now (capacities .entry))) (stateOf (now (flow .entry)) excess (now (labels .entry))) i (now (list .entry)) (r .at) (r .label)) ⌝ }
 {
     let n = labels.len() as u32;
-    least_far(tails, heads, capacities, flow, labels, list, i, 2 * n) + 1
-}
-
-// The choice so far, or node i where its label is less.
-fn lower(labels: &[u32], best: Choice, i: u32) -> Choice
-    requires { ⌜ Node (length (now labels)) i × Chosen (length (now labels)) best ⌝ }
-    ensures { λ r. ⌜ (r ≡ lower (now (labels .entry)) best i) × Chosen (length (now (labels .entry))) r ⌝ }
-{
-    match best {
-        Choice::Nothing => Choice::Node(i),
-        Choice::Node(b) => {
-            let there = rows::at_node(labels, b);
-            let here = rows::at_node(labels, i);
-            if here < there {
-                return Choice::Node(i);
-            }
-            Choice::Node(b)
-        }
+    let found = least_far(tails, heads, capacities, flow, labels, list, i, 2 * n);
+    Lowest {
+        label: found.label + 1,
+        at: found.at,
     }
-}
-
-// The node that holds more than half of Delta and has the least label; among equals the least number.
-pub fn choose(excess: &[u32], labels: &[u32], delta: u64) -> Choice
-    requires { ⌜ (length (now excess) ≡ length (now labels)) × (length (now labels) ≤ 512) ⌝ }
-    ensures { λ r. ⌜ (r ≡ chooseTo delta (now (excess .entry)) (now (labels .entry)) (length (now (labels .entry)))) × Chosen (length (now (labels .entry))) r ⌝ }
-{
-    let mut best = Choice::Nothing;
-    let mut i: u32 = 0;
-    while (i as usize) < labels.len() {
-        let held = rows::wide(excess[i as usize]);
-        i += 1;
-        if delta < 2 * held {
-            best = lower(labels, best, i);
-        }
-    }
-    best
 }
 
 // The lesser of two numbers.
@@ -225,7 +221,7 @@ fn amount(
 ) -> u32
     requires { ⌜ ArcRows (length (now excess)) (now tails) (now heads) (now capacities) ⌝ }
     requires { ⌜ WithinCapacities (now capacities) (now flow) ⌝ }
-    requires { ⌜ Node (length (now excess)) i × (k < length (now capacities)) ⌝ }
+    requires { ⌜ Node (length (now excess)) i × (k < length (now capacities)) × (touching (now tails) (now heads) i k ≡ true) ⌝ }
     requires { ⌜ AtMost delta (now excess) ⌝ }
     ensures { λ r. ⌜ ((n s t : ℕ) (label : List ℕ) → r ≡ amount (tableOf n s t (now (tails .entry)) (now (heads .entry)) (now (capacities .entry))) delta (stateOf (now (flow .entry)) (now (excess .entry)) label) i k) ⌝ }
 {
@@ -285,7 +281,7 @@ pub fn push(
 ) -> bool
     requires { ⌜ ArcRows (length (now excess)) (now tails) (now heads) (now capacities) ⌝ }
     requires { ⌜ WithinCapacities (now capacities) (now flow) ⌝ }
-    requires { ⌜ Node (length (now excess)) i × (k < length (now capacities)) ⌝ }
+    requires { ⌜ Node (length (now excess)) i × (k < length (now capacities)) × (touching (now tails) (now heads) i k ≡ true) ⌝ }
     requires { ⌜ AtMost delta (now excess) × (total (now excess) < 2 ^ 32) ⌝ }
     ensures { λ r. ⌜ ((n : ℕ) (label : List ℕ) → Pushed (tableOf n s t (now (tails .entry)) (now (heads .entry)) (now (capacities .entry))) delta (stateOf (now (flow .entry)) (now (excess .entry)) label) i k (now (flow .exit)) (now (excess .exit)) r) ⌝ }
 {

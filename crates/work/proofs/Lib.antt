@@ -1,2 +1,3 @@
 pub mod Stepping
+pub mod Advancing
 pub mod Phasing

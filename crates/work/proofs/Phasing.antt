@@ -13,7 +13,9 @@ use Rattle.run.specs.Phase.{Run, noSteps, step, phase, enough, deltaAfter, afte
 use Rattle.run.specs.Rows.{runOf, steps, InPhase}
 use Rattle.run.specs.declared.Choice.the-variants.{Node, Nothing}
 use Rattle.run.proofs.Whole.{delta-half}
-use Rattle.run.proofs.Moments.{Moment, moment-first, moment-in-phase, moment-node, moment-step, moment-end, moment-few}
+use Rattle.run.proofs.Moments.{Moment, moment-first, moment-facts, moment-in-phase, moment-node, moment-step, moment-end, moment-few}
+use Rattle.looking.specs.Looked.{ValidLabels}
+use Rattle.looking.proofs.Passing.{facts-valid}
 use Rattle.work.specs.Held.{Between}
 
 -- The phase at Delta that began at `first` stands at `now`, `size` steps on.
@@ -45,6 +47,12 @@ module _ (t : Table) (ok : Accepted t) (delta : ℕ) (first : Run) where
     amid-in-phase =
         subst⁻¹ (λ (x : ℕ). InPhase t x (now .state)) (amid .between .delta-is)
         (moment-in-phase t ok (amid .between .done) (amid .between .more) now (amid .size) (amid .moment))
+
+    -- labels are valid,
+    pub amid-valid : ValidLabels t (now .state)
+    amid-valid =
+        facts-valid t (deltaAfter t (amid .between .done)) (now .state)
+        (moment-facts t ok (amid .between .done) (amid .between .more) now (amid .size) (amid .moment))
 
     -- and there are few steps so far.
     pub amid-few : steps (now .counts) < 2 ^ 32

@@ -1,5 +1,5 @@
 -- Laws of a step over the work row: what its parts leave is a step of the definitions.
-use Prim.Native.Nat.{ℕ, _+_, _-_, _*_, _≤_}
+use Prim.Native.Nat.{ℕ, _+_, _-_, _*_, _^_, _≤_, _<_}
 use native.Mathlib.Omega.{arith}
 use mathlib.Core.Path.{_≡_, ap, _∙_}
 use mathlib.Core.Bool.{Bool}
@@ -7,7 +7,9 @@ use mathlib.Core.List.{List, _++_, append-nil}
 use lib.ListN.{length, set, drop, drop-of-length-le}
 use Rattle.rows.specs.Row.{byNode}
 use Rattle.table.specs.Table.{Table, tableOf, arcs}
+use Rattle.table.specs.Accepted.{ArcRows}
 use Rattle.arcs.specs.Residual.{list}
+use Rattle.arcs.proofs.Joined.{list-few}
 use Rattle.run.specs.Start.{State, startFlow, startLabelAt, start}
 use Rattle.run.specs.Choice.{chooseTo, choose}
 use Rattle.run.specs.Push.{firstEligible, saturates, push}
@@ -66,3 +68,8 @@ unfolding start
 start-is t before flow excess label long flow-is excess-is label-is =
     let past : length before ≤ arcs t = omega arith in
     same-state (flow-is ∙ rw (drop-of-length-le before past, append-nil)) excess-is label-is
+
+-- A node's list is short enough to be counted in 32 bits.
+pub list-short : (t : Table) (i : ℕ) → ArcRows (t .nodes) (t .tails) (t .heads) (t .capacities) → length (list t i) < 2 ^ 32
+unfolding list
+list-short t i rows = omega (arith, list-few t i (arcs t), rows .ends .few-arcs, rows .capacities-long)

@@ -1,15 +1,22 @@
 -- What the flow row and the work row hold while the run goes on: for the contracts of the run over one work row.
-use Prim.Native.Nat.{ℕ, _<_}
+use Prim.Native.Nat.{ℕ, _≤_, _<_}
 use mathlib.Core.Path.{_≡_}
 use mathlib.Core.List.{List}
+use lib.ListN.{length}
+use Rattle.rows.specs.Row.{Node, atNode}
 use Rattle.table.specs.Table.{Table}
+use Rattle.arcs.specs.Residual.{list}
+use Rattle.arcs.specs.Work.{excessPart, labelsPart, SameLists}
 use Rattle.run.specs.Start.{State}
 use Rattle.run.specs.Scale.{phaseCount, scale}
-use Rattle.run.specs.Phase.{Run, deltaAfter, after, run}
+use Rattle.run.specs.Relabel.{newLabel}
+use Rattle.run.specs.Phase.{Run, step, deltaAfter, after, run}
 use Rattle.run.specs.Rows.{stateOf, runOf}
 use Rattle.run.specs.declared.Counts.{Counts}
 use Rattle.run.specs.declared.Outcome.{Outcome}
-use Rattle.arcs.specs.Work.{excessPart, labelsPart, listsPart}
+use Rattle.looking.specs.Looked.{Looked, HighBefore}
+use Rattle.tournament.specs.Tournament.{key, LowLabels, Tournament}
+use Rattle.steps.specs.declared.Lowest.{Lowest}
 
 -- The state of n nodes that a flow row and a work row hold.
 abbrev pub stateIn : (n : ℕ) (flow work : List ℕ) → State
@@ -18,6 +25,30 @@ stateIn n flow work = stateOf flow (excessPart n work) (labelsPart n work)
 -- The run that they hold, with these counts.
 abbrev pub runIn : (n : ℕ) (flow work : List ℕ) → Counts → Run
 runIn n flow work counts = runOf (stateIn n flow work) counts
+
+-- What a relabel of node i is to do: its new label, and a position of its list before which no residual arc leads below that.
+pub record Relabels (t : Table) (st : State) (i : ℕ) (found : Lowest) : Type 0 where
+  pub label-is : found .label ≡ newLabel t st i
+  pub within : found .at ≤ length (list t i)
+  pub high : HighBefore t st i (list t i) (found .at) (found .label)
+
+-- Two rows by node hold the same of every node but i and j.
+abbrev pub Apart : ℕ → ℕ → List ℕ → List ℕ → Type 0
+Apart i j before after = (v : ℕ) → (v ≡ i → ⊥) → (v ≡ j → ⊥) → atNode after v ≡ atNode before v
+
+-- What a step at node i leaves: document 01's step, how far each list was looked through, and nodes other than i and one more as they were.
+pub record Stepped (t : Table) (delta : ℕ) (before : Run) (i : ℕ) (after : Run) (looked : List ℕ) (other : ℕ) : Type 0 where
+  pub is : after ≡ step t delta before i
+  pub looked-on : Looked t (after .state) looked
+  pub low : LowLabels (after .state .label)
+  pub other-node : Node (t .nodes) other
+  pub excess-apart : Apart i other (before .state .excess) (after .state .excess)
+  pub label-apart : Apart i other (before .state .label) (after .state .label)
+
+-- What the run keeps beside document 01's state: how far each list was looked through, and the tournament of the nodes' keys.
+pub record Ready (t : Table) (delta : ℕ) (st : State) (looked tree : List ℕ) : Type 0 where
+  pub lists : Looked t st looked
+  pub keys : Tournament (t .nodes) (key delta (st .excess) (st .label)) tree
 
 -- A phase at Delta is to come: the run stands after some of its phases, and not all.
 pub record Between (t : Table) (delta : ℕ) (now : Run) : Type 0 where
@@ -32,4 +63,4 @@ pub record Ran (t : Table) (work : List ℕ) (outcome : Outcome) (flow-left work
   pub counts-are : outcome .counts ≡ run t .counts
   pub phases-are : outcome .phases ≡ phaseCount t
   pub scale-is : outcome .scale ≡ scale t
-  pub lists-stay : listsPart (t .nodes) work-left ≡ listsPart (t .nodes) work
+  pub lists-stay : SameLists (t .nodes) work work-left

@@ -1,38 +1,55 @@
 // The run over one work row, which is cut into four parts: excess, labels, list starts and list entries.
 use run::Choice;
 use run::Counts;
-use run::Found;
 use run::Outcome;
+use steps::Lowest;
+use steps::Spot;
 ghost use mathlib.Core.Path.{_≡_};
-ghost use mathlib.Core.List.{List};
+ghost use mathlib.Core.Bool.{true};
 ghost use Prim.Native.Nat.{ℕ, _-_, _^_, _≤_, _<_};
-ghost use lib.ListN.{length, set};
+ghost use lib.ListN.{length, set, replicate};
 ghost use Rattle.rows.specs.Row.{Node};
 ghost use Rattle.table.specs.Table.{tableOf};
 ghost use Rattle.table.specs.Accepted.{Accepted, ArcRows};
 ghost use Rattle.arcs.specs.Residual.{list};
+ghost use Rattle.arcs.specs.Work.{startsAt, entriesAt, excessPart, labelsPart, lookedPart, listsPart, SameLists, InWork, workNeed};
 ghost use Rattle.run.specs.Start.{start};
 ghost use Rattle.run.specs.Scale.{largest, phasesFor, phaseCount};
-ghost use Rattle.run.specs.Choice.{choose};
-ghost use Rattle.run.specs.Push.{firstEligible, saturates, push};
-ghost use Rattle.run.specs.Relabel.{newLabel};
+ghost use Rattle.run.specs.Push.{saturates, push};
 ghost use Rattle.run.specs.Phase.{step, phase, run};
 ghost use Rattle.run.specs.Rows.{steps, WithinCapacities, InPhase};
-ghost use Rattle.steps.specs.Rows.{FoundIn};
-ghost use Rattle.arcs.specs.Work.{startsAt, excessPart, labelsPart, listsPart, InWork, workNeed};
-ghost use Rattle.work.specs.Held.{stateIn, runIn, Between, Ran};
+ghost use Rattle.looking.specs.Looked.{Looked, ValidLabels};
+ghost use Rattle.tournament.specs.Tournament.{key, LowLabels, rekeyed, Tournament};
+ghost use Rattle.steps.specs.Rows.{touching, SpotIs};
+ghost use Rattle.work.specs.Held.{stateIn, runIn, Relabels, Stepped, Ready, Between, Ran};
 
-// The choice of a step, among the nodes whose excesses and labels the work row holds.
-fn choose_node(n: u32, work: &[u32], delta: u64) -> Choice
-    requires { ⌜ (n ≤ 512) × (startsAt n ≤ length (now work)) ⌝ }
-    ensures { λ r. ⌜ ((s t : ℕ) (tails heads capacities flow : List ℕ) → r ≡ choose (tableOf n s t tails heads capacities) delta (stateIn n flow (now (work .entry)))) ⌝ }
+// What a step answers beside the rows: the counts, and the node beside the chosen one that it changed (after a relabel that is the chosen one again).
+struct Taken {
+    counts: Counts,
+    other: u32,
+}
+
+// The tournament of the keys of all nodes, whose excesses and labels the work row holds.
+fn build_keys(n: u32, work: &[u32], tree: &mut [u32], delta: u64)
+    requires { ⌜ (n ≤ 512) × (startsAt n ≤ length (now work)) × LowLabels (labelsPart n (now work)) × (length (now tree) ≡ 1024) ⌝ }
+    ensures { λ _. ⌜ Tournament n (key delta (excessPart n (now (work .entry))) (labelsPart n (now (work .entry)))) (now (tree .exit)) ⌝ }
 {
     let nodes = n as usize;
     let end = nodes + nodes;
-    steps::choose(&work[0..nodes], &work[nodes..end], delta)
+    tournament::build(tree, &work[0..nodes], &work[nodes..end], delta);
 }
 
-// The first eligible arc in node i's list.
+// Node i's key is brought up to date.
+fn refresh_key(n: u32, work: &[u32], tree: &mut [u32], delta: u64, i: u32)
+    requires { ⌜ (n ≤ 512) × (startsAt n ≤ length (now work)) × LowLabels (labelsPart n (now work)) × (length (now tree) ≡ 1024) × Node n i ⌝ }
+    ensures { λ _. ⌜ ((keys : ℕ → ℕ) → Tournament n keys (now (tree .entry)) → Tournament n (rekeyed keys i (key delta (excessPart n (now (work .entry))) (labelsPart n (now (work .entry))) i)) (now (tree .exit))) ⌝ }
+{
+    let nodes = n as usize;
+    let end = nodes + nodes;
+    tournament::refresh(tree, &work[0..nodes], &work[nodes..end], delta, i);
+}
+
+// The first eligible arc in node i's list, from where the list was looked through to.
 fn search_list(
     n: u32,
     tails: &[u32],
@@ -41,26 +58,28 @@ fn search_list(
     flow: &[u32],
     work: &[u32],
     i: u32,
-) -> Found
+) -> Spot
     requires { ⌜ ArcRows n (now tails) (now heads) (now capacities) × WithinCapacities (now capacities) (now flow) × Node n i ⌝ }
-    requires { ⌜ ((s t : ℕ) × InWork (tableOf n s t (now tails) (now heads) (now capacities)) (now work)) ⌝ }
-    ensures { λ r. ⌜ ((s t : ℕ) → InWork (tableOf n s t (now (tails .entry)) (now (heads .entry)) (now (capacities .entry))) (now (work .entry)) → r ≡ firstEligible (tableOf n s t (now (tails .entry)) (now (heads .entry)) (now (capacities .entry))) (stateIn n (now (flow .entry)) (now (work .entry))) i (list (tableOf n s t (now (tails .entry)) (now (heads .entry)) (now (capacities .entry))) i)) ⌝ }
-    ensures { λ r. ⌜ FoundIn (length (now (capacities .entry))) r ⌝ }
+    requires { ⌜ ((s t : ℕ) × InWork (tableOf n s t (now tails) (now heads) (now capacities)) (now work) × Looked (tableOf n s t (now tails) (now heads) (now capacities)) (stateIn n (now flow) (now work)) (lookedPart n (now work))) ⌝ }
+    ensures { λ r. ⌜ ((s t : ℕ) → InWork (tableOf n s t (now (tails .entry)) (now (heads .entry)) (now (capacities .entry))) (now (work .entry)) → Looked (tableOf n s t (now (tails .entry)) (now (heads .entry)) (now (capacities .entry))) (stateIn n (now (flow .entry)) (now (work .entry))) (lookedPart n (now (work .entry))) → SpotIs (tableOf n s t (now (tails .entry)) (now (heads .entry)) (now (capacities .entry))) (stateIn n (now (flow .entry)) (now (work .entry))) i (list (tableOf n s t (now (tails .entry)) (now (heads .entry)) (now (capacities .entry))) i) r) ⌝ }
 {
     let nodes = n as usize;
-    let end = nodes + nodes;
+    let at = nodes + nodes;
+    let from = at + (nodes + 1);
+    let end = at + (at + 1);
     steps::search(
         tails,
         heads,
         capacities,
         flow,
-        &work[nodes..end],
+        &work[nodes..at],
         arcs::node_list(work, n, capacities.len(), i),
         i,
+        rows::at_node(&work[from..end], i),
     )
 }
 
-// The label that a relabel gives node i.
+// The label that a relabel gives node i, and where its list is to be looked through from then.
 fn label_from_list(
     n: u32,
     tails: &[u32],
@@ -69,10 +88,10 @@ fn label_from_list(
     flow: &[u32],
     work: &[u32],
     i: u32,
-) -> u32
+) -> Lowest
     requires { ⌜ ArcRows n (now tails) (now heads) (now capacities) × WithinCapacities (now capacities) (now flow) × Node n i ⌝ }
     requires { ⌜ ((s t : ℕ) × InWork (tableOf n s t (now tails) (now heads) (now capacities)) (now work)) ⌝ }
-    ensures { λ r. ⌜ ((s t : ℕ) → InWork (tableOf n s t (now (tails .entry)) (now (heads .entry)) (now (capacities .entry))) (now (work .entry)) → r ≡ newLabel (tableOf n s t (now (tails .entry)) (now (heads .entry)) (now (capacities .entry))) (stateIn n (now (flow .entry)) (now (work .entry))) i) ⌝ }
+    ensures { λ r. ⌜ ((s t : ℕ) → InWork (tableOf n s t (now (tails .entry)) (now (heads .entry)) (now (capacities .entry))) (now (work .entry)) → Relabels (tableOf n s t (now (tails .entry)) (now (heads .entry)) (now (capacities .entry))) (stateIn n (now (flow .entry)) (now (work .entry))) i r) ⌝ }
 {
     let nodes = n as usize;
     let end = nodes + nodes;
@@ -102,7 +121,7 @@ fn push_from(
     k: u32,
 ) -> bool
     requires { ⌜ ArcRows n (now tails) (now heads) (now capacities) × (startsAt n ≤ length (now work)) ⌝ }
-    requires { ⌜ InPhase (tableOf n s t (now tails) (now heads) (now capacities)) delta (stateIn n (now flow) (now work)) × Node n i × (k < length (now capacities)) ⌝ }
+    requires { ⌜ InPhase (tableOf n s t (now tails) (now heads) (now capacities)) delta (stateIn n (now flow) (now work)) × Node n i × (k < length (now capacities)) × (touching (now tails) (now heads) i k ≡ true) ⌝ }
     ensures { λ r. ⌜ stateIn n (now (flow .exit)) (now (work .exit)) ≡ push (tableOf n s t (now (tails .entry)) (now (heads .entry)) (now (capacities .entry))) delta (stateIn n (now (flow .entry)) (now (work .entry))) i k ⌝ }
     ensures { λ r. ⌜ r ≡ saturates (tableOf n s t (now (tails .entry)) (now (heads .entry)) (now (capacities .entry))) delta (stateIn n (now (flow .entry)) (now (work .entry))) i k ⌝ }
     ensures { λ r. ⌜ listsPart n (now (work .exit)) ≡ listsPart n (now (work .entry)) ⌝ }
@@ -134,6 +153,36 @@ fn set_label(n: u32, work: &mut [u32], i: u32, label: u32)
     rows::set_node(&mut work[nodes..end], i, label);
 }
 
+// Node i's list was looked through to position `at`, with the second half of the starts part lent.
+fn set_looked(n: u32, work: &mut [u32], i: u32, at: u32)
+    requires { ⌜ (n ≤ 512) × (entriesAt n ≤ length (now work)) × Node n i ⌝ }
+    ensures { λ _. ⌜ excessPart n (now (work .exit)) ≡ excessPart n (now (work .entry)) ⌝ }
+    ensures { λ _. ⌜ labelsPart n (now (work .exit)) ≡ labelsPart n (now (work .entry)) ⌝ }
+    ensures { λ _. ⌜ lookedPart n (now (work .exit)) ≡ set (lookedPart n (now (work .entry))) (i - 1) at ⌝ }
+    ensures { λ _. ⌜ SameLists n (now (work .entry)) (now (work .exit)) ⌝ }
+{
+    let nodes = n as usize;
+    let begin = nodes + nodes;
+    let from = begin + (nodes + 1);
+    let end = begin + (begin + 1);
+    rows::set_node(&mut work[from..end], i, at);
+}
+
+// No list was looked through yet.
+fn clear_looked(n: u32, work: &mut [u32])
+    requires { ⌜ (n ≤ 512) × (entriesAt n ≤ length (now work)) ⌝ }
+    ensures { λ _. ⌜ excessPart n (now (work .exit)) ≡ excessPart n (now (work .entry)) ⌝ }
+    ensures { λ _. ⌜ labelsPart n (now (work .exit)) ≡ labelsPart n (now (work .entry)) ⌝ }
+    ensures { λ _. ⌜ lookedPart n (now (work .exit)) ≡ replicate n 0 ⌝ }
+    ensures { λ _. ⌜ SameLists n (now (work .entry)) (now (work .exit)) ⌝ }
+{
+    let nodes = n as usize;
+    let begin = nodes + nodes;
+    let from = begin + (nodes + 1);
+    let end = begin + (begin + 1);
+    rows::clear(&mut work[from..end], nodes);
+}
+
 // One step at the chosen node i: a push along its first eligible arc, or else a relabel.
 fn step(
     n: u32,
@@ -147,23 +196,76 @@ fn step(
     delta: u64,
     i: u32,
     counts: Counts,
+) -> Taken
+    requires { ⌜ ArcRows n (now tails) (now heads) (now capacities) × InWork (tableOf n s t (now tails) (now heads) (now capacities)) (now work) ⌝ }
+    requires { ⌜ InPhase (tableOf n s t (now tails) (now heads) (now capacities)) delta (stateIn n (now flow) (now work)) × Node n i × (steps counts < 2 ^ 63) ⌝ }
+    requires { ⌜ ValidLabels (tableOf n s t (now tails) (now heads) (now capacities)) (stateIn n (now flow) (now work)) × Looked (tableOf n s t (now tails) (now heads) (now capacities)) (stateIn n (now flow) (now work)) (lookedPart n (now work)) ⌝ }
+    ensures { λ r. ⌜ Stepped (tableOf n s t (now (tails .entry)) (now (heads .entry)) (now (capacities .entry))) delta (runIn n (now (flow .entry)) (now (work .entry)) counts) i (runIn n (now (flow .exit)) (now (work .exit)) (r .counts)) (lookedPart n (now (work .exit))) (r .other) ⌝ }
+    ensures { λ r. ⌜ SameLists n (now (work .entry)) (now (work .exit)) ⌝ }
+{
+    match search_list(n, tails, heads, capacities, flow, work, i) {
+        Spot::At(p, k) => {
+            let j = steps::far(tails, heads, i, k);
+            let full = push_from(n, s, t, tails, heads, capacities, flow, work, delta, i, k);
+            set_looked(n, work, i, p);
+            Taken {
+                counts: steps::count_push(counts, full),
+                other: j,
+            }
+        }
+        Spot::End => {
+            let found = label_from_list(n, tails, heads, capacities, flow, work, i);
+            let label = found.label;
+            let at = found.at;
+            set_label(n, work, i, label);
+            set_looked(n, work, i, at);
+            Taken {
+                counts: steps::count_relabel(counts),
+                other: i,
+            }
+        }
+    }
+}
+
+// One step at the chosen node i, with the keys of the nodes that it changed brought up to date.
+fn turn(
+    n: u32,
+    s: u32,
+    t: u32,
+    tails: &[u32],
+    heads: &[u32],
+    capacities: &[u32],
+    flow: &mut [u32],
+    work: &mut [u32],
+    tree: &mut [u32],
+    delta: u64,
+    i: u32,
+    counts: Counts,
 ) -> Counts
     requires { ⌜ ArcRows n (now tails) (now heads) (now capacities) × InWork (tableOf n s t (now tails) (now heads) (now capacities)) (now work) ⌝ }
     requires { ⌜ InPhase (tableOf n s t (now tails) (now heads) (now capacities)) delta (stateIn n (now flow) (now work)) × Node n i × (steps counts < 2 ^ 63) ⌝ }
+    requires { ⌜ ValidLabels (tableOf n s t (now tails) (now heads) (now capacities)) (stateIn n (now flow) (now work)) × Ready (tableOf n s t (now tails) (now heads) (now capacities)) delta (stateIn n (now flow) (now work)) (lookedPart n (now work)) (now tree) ⌝ }
     ensures { λ r. ⌜ runIn n (now (flow .exit)) (now (work .exit)) r ≡ step (tableOf n s t (now (tails .entry)) (now (heads .entry)) (now (capacities .entry))) delta (runIn n (now (flow .entry)) (now (work .entry)) counts) i ⌝ }
-    ensures { λ r. ⌜ listsPart n (now (work .exit)) ≡ listsPart n (now (work .entry)) ⌝ }
+    ensures { λ r. ⌜ Ready (tableOf n s t (now (tails .entry)) (now (heads .entry)) (now (capacities .entry))) delta (stateIn n (now (flow .exit)) (now (work .exit))) (lookedPart n (now (work .exit))) (now (tree .exit)) ⌝ }
+    ensures { λ r. ⌜ SameLists n (now (work .entry)) (now (work .exit)) ⌝ }
 {
-    match search_list(n, tails, heads, capacities, flow, work, i) {
-        Found::Place(k) => {
-            let full = push_from(n, s, t, tails, heads, capacities, flow, work, delta, i, k);
-            steps::count_push(counts, full)
-        }
-        Found::Missing => {
-            let label = label_from_list(n, tails, heads, capacities, flow, work, i);
-            set_label(n, work, i, label);
-            steps::count_relabel(counts)
-        }
-    }
+    let done = step(
+        n,
+        s,
+        t,
+        tails,
+        heads,
+        capacities,
+        flow,
+        work,
+        delta,
+        i,
+        counts,
+    );
+    let other = done.other;
+    refresh_key(n, work, tree, delta, i);
+    refresh_key(n, work, tree, delta, other);
+    done.counts
 }
 
 // One phase: steps at the chosen node until there is none.
@@ -176,20 +278,24 @@ fn phase(
     capacities: &[u32],
     flow: &mut [u32],
     work: &mut [u32],
+    tree: &mut [u32],
     delta: u64,
     counts: Counts,
 ) -> Counts
     requires { ⌜ Accepted (tableOf n s t (now tails) (now heads) (now capacities)) × InWork (tableOf n s t (now tails) (now heads) (now capacities)) (now work) ⌝ }
     requires { ⌜ Between (tableOf n s t (now tails) (now heads) (now capacities)) delta (runIn n (now flow) (now work) counts) ⌝ }
+    requires { ⌜ Looked (tableOf n s t (now tails) (now heads) (now capacities)) (stateIn n (now flow) (now work)) (lookedPart n (now work)) × (length (now tree) ≡ 1024) ⌝ }
     ensures { λ r. ⌜ runIn n (now (flow .exit)) (now (work .exit)) r ≡ phase (tableOf n s t (now (tails .entry)) (now (heads .entry)) (now (capacities .entry))) delta (runIn n (now (flow .entry)) (now (work .entry)) counts) ⌝ }
-    ensures { λ r. ⌜ listsPart n (now (work .exit)) ≡ listsPart n (now (work .entry)) ⌝ }
+    ensures { λ r. ⌜ Looked (tableOf n s t (now (tails .entry)) (now (heads .entry)) (now (capacities .entry))) (stateIn n (now (flow .exit)) (now (work .exit))) (lookedPart n (now (work .exit))) ⌝ }
+    ensures { λ r. ⌜ SameLists n (now (work .entry)) (now (work .exit)) ⌝ }
 {
+    build_keys(n, work, tree, delta);
     let mut taken = counts;
     loop {
-        let Choice::Node(i) = choose_node(n, work, delta) else {
+        let Choice::Node(i) = tournament::choose_from(tree) else {
             break;
         };
-        taken = step(
+        taken = turn(
             n,
             s,
             t,
@@ -198,6 +304,7 @@ fn phase(
             capacities,
             flow,
             work,
+            tree,
             delta,
             i,
             taken,
@@ -216,12 +323,14 @@ fn phases(
     capacities: &[u32],
     flow: &mut [u32],
     work: &mut [u32],
+    tree: &mut [u32],
     count: u32,
 ) -> Counts
     requires { ⌜ Accepted (tableOf n s t (now tails) (now heads) (now capacities)) × InWork (tableOf n s t (now tails) (now heads) (now capacities)) (now work) ⌝ }
     requires { ⌜ (stateIn n (now flow) (now work) ≡ start (tableOf n s t (now tails) (now heads) (now capacities))) × (count ≡ phaseCount (tableOf n s t (now tails) (now heads) (now capacities))) ⌝ }
+    requires { ⌜ Looked (tableOf n s t (now tails) (now heads) (now capacities)) (stateIn n (now flow) (now work)) (lookedPart n (now work)) × (length (now tree) ≡ 1024) ⌝ }
     ensures { λ r. ⌜ runIn n (now (flow .exit)) (now (work .exit)) r ≡ run (tableOf n s t (now (tails .entry)) (now (heads .entry)) (now (capacities .entry))) ⌝ }
-    ensures { λ r. ⌜ listsPart n (now (work .exit)) ≡ listsPart n (now (work .entry)) ⌝ }
+    ensures { λ r. ⌜ SameLists n (now (work .entry)) (now (work .exit)) ⌝ }
 {
     let mut taken = Counts {
         saturating: 0,
@@ -231,7 +340,19 @@ fn phases(
     let mut done: u32 = 0;
     let mut delta = start::scale(count);
     while done < count {
-        taken = phase(n, s, t, tails, heads, capacities, flow, work, delta, taken);
+        taken = phase(
+            n,
+            s,
+            t,
+            tails,
+            heads,
+            capacities,
+            flow,
+            work,
+            tree,
+            delta,
+            taken,
+        );
         delta = delta / 2;
         done += 1;
     }
@@ -293,9 +414,22 @@ pub fn run(
     ensures { λ r. ⌜ Ran (tableOf n s t (now (tails .entry)) (now (heads .entry)) (now (capacities .entry))) (now (work .entry)) r (now (flow .exit)) (now (work .exit)) ⌝ }
 {
     begin(n, s, t, tails, heads, capacities, flow, work);
+    clear_looked(n, work);
     let count = count_phases(n, work);
     let d = start::scale(count);
-    let taken = phases(n, s, t, tails, heads, capacities, flow, work, count);
+    let mut tree = [0u32; 1024];
+    let taken = phases(
+        n,
+        s,
+        t,
+        tails,
+        heads,
+        capacities,
+        flow,
+        work,
+        &mut tree,
+        count,
+    );
     Outcome {
         counts: taken,
         phases: count,

@@ -28,7 +28,9 @@ wide-requires-2 : tie.Need-wide-requires-2
 wide-requires-2 c κs = search needs
 
 far-requires : tie.Need-far-requires
-far-requires c κs = search needs
+far-requires c κs =
+    let start = c .before .before .before .before .before .before .before .before .before in
+    ((length (start .args .excess .now), start .pre .0 .ends), (omega (arith, start .pre .1 .1 .0 .1, start .pre .0 .capacities-long), start .pre .1 .1 .0 .2))
 
 at-node-requires-2 : tie.Need-at-node-requires-2
 at-node-requires-2 c κs = far-in c

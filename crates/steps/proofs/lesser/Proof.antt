@@ -1,54 +1,59 @@
--- `lesser` meets its contract: by the residual, then by the order of the two labels.
-use Rattle.steps.proofs.Searching.{far-node, lesser-none, lesser-some}
+-- `lesser` meets its contract: by the order of the two labels, then by the residual.
+use Rattle.steps.proofs.Searching.{far-node, lesser-high, lesser-none, lesser-some}
+use Rattle.rows.specs.Row.{atNode}
 use Rattle.run.specs.Rows.{stateOf}
 use Rattle.table.specs.Table.{tableOf}
+use lib.ListN.{length}
 use native.Mathlib.Omega.{arith}
+use mathlib.Core.Path.{ap, _∙_}
 use borrow.Author.Needs.{needs}
 use Rattle.steps.proofs.lesser.Statement.{statement}
 use Rattle.steps.proofs.lesser.Tie as tie
 
-residual-requires : tie.Need-residual-requires
-residual-requires c κs = search needs
-
-returns : tie.Need-returns
-returns c =
-    let given = c .before .before .before .before .before .before .before .args in (
-      λ n s t excess. lesser-none (tableOf n s t (given .tails .now) (given .heads .now) (given .capacities .now)) (stateOf (given .flow .now) excess (given .labels .now)) (given .i) (given .k)
-          (given .best) (c .before .residual .result) (c .before .residual .ensures n s t (given .heads .now)) (c .if1 .taken),
-      search needs,
-    )
-
 far-requires : tie.Need-far-requires
-far-requires c κs = search needs
+far-requires c κs =
+    let start = c .before .before .before .before .before in
+    ((length (start .args .labels .now), start .pre .0 .ends), (omega (arith, start .pre .1 .1 .0, start .pre .0 .capacities-long), start .pre .1 .1 .1))
 
 at-node-requires : tie.Need-at-node-requires
 at-node-requires c κs =
-    let start = c .before .before .before .before .before .before .before .before in
-    far-node (start .args .i) (start .pre .0) (start .pre .1 .1) _ (c .far .ensures _ 0 0 (start .args .capacities .now))
+    let start = c .before .before .before .before .before .before in
+    far-node (start .args .i) (start .pre .0) (start .pre .1 .1 .0) _ (c .far .ensures _ 0 0 (start .args .capacities .now))
+
+returns : tie.Need-returns
+returns c =
+    let seen = c .before in
+    let given = seen .before .before .before .before .before .before .before .args in (
+      λ n s t excess. lesser-high (tableOf n s t (given .tails .now) (given .heads .now) (given .capacities .now)) (stateOf (given .flow .now) excess (given .labels .now)) (given .i) (given .k)
+          (seen .at-node .result) (seen .at-node .ensures ∙ ap (atNode (given .labels .now)) (seen .before .far .ensures n s t (given .capacities .now)))
+          (given .best) (c .if1 .taken),
+      search needs,
+    )
+
+residual-requires : tie.Need-residual-requires
+residual-requires c κs = search needs
 
 returns-2 : tie.Need-returns-2
 returns-2 c =
-    let tested = c .before .before .before in
-    let given = tested .before .before .before .before .before .before .before .args in (
-      λ n s t excess. lesser-some (tableOf n s t (given .tails .now) (given .heads .now) (given .capacities .now)) (stateOf (given .flow .now) excess (given .labels .now)) (given .i) (given .k)
-          (given .best) (tested .before .residual .result) (c .before .at-node .result) (c .before .at-node .result)
-          (tested .before .residual .ensures n s t (given .heads .now)) (tested .if1 .left)
-          (cc (c .before .before .far .ensures n s t (given .capacities .now))) (omega arith),
+    let seen = c .before .before .before in
+    let given = seen .before .before .before .before .before .before .before .args in (
+      λ n s t excess. lesser-none (tableOf n s t (given .tails .now) (given .heads .now) (given .capacities .now)) (stateOf (given .flow .now) excess (given .labels .now)) (given .i) (given .k)
+          (seen .at-node .result) (seen .at-node .ensures ∙ ap (atNode (given .labels .now)) (seen .before .far .ensures n s t (given .capacities .now)))
+          (given .best) (c .before .residual .result) (c .before .residual .ensures n s t (given .heads .now)) (c .if2 .taken),
       search needs,
     )
 
 returns-3 : tie.Need-returns-3
 returns-3 c =
-    let tested = c .before .before .before in
-    let given = tested .before .before .before .before .before .before .before .args in (
+    let seen = c .before .before .before in
+    let given = seen .before .before .before .before .before .before .before .args in (
       λ n s t excess. lesser-some (tableOf n s t (given .tails .now) (given .heads .now) (given .capacities .now)) (stateOf (given .flow .now) excess (given .labels .now)) (given .i) (given .k)
-          (given .best) (tested .before .residual .result) (c .before .at-node .result) (given .best)
-          (tested .before .residual .ensures n s t (given .heads .now)) (tested .if1 .left)
-          (cc (c .before .before .far .ensures n s t (given .capacities .now))) (omega arith),
-      search needs,
+          (seen .at-node .result) (seen .at-node .ensures ∙ ap (atNode (given .labels .now)) (seen .before .far .ensures n s t (given .capacities .now)))
+          (given .best) (c .before .residual .result) (c .before .residual .ensures n s t (given .heads .now)) (c .if2 .left) (c .before .before .if1 .left),
+      omega (arith, c .before .before .if1 .left),
     )
 
 pub lesser-spec : {M : Type 1} → statement M
 lesser-spec =
     tie.close
-    (tie.spec residual-requires returns far-requires at-node-requires returns-2 returns-3)
+    (tie.spec far-requires at-node-requires returns residual-requires returns-2 returns-3)

@@ -3,6 +3,7 @@ use Rattle.run.specs.Rows.{stateOf}
 use Rattle.table.specs.Table.{tableOf}
 use Rattle.steps.proofs.Moving.{push-sends, push-shifts, pushed}
 use mathlib.Core.List.{[]}
+use lib.ListN.{length}
 use native.Mathlib.Omega.{arith}
 use borrow.Author.Needs.{needs}
 use Rattle.steps.proofs.push.Statement.{statement}
@@ -12,10 +13,14 @@ residual-requires : tie.Need-residual-requires
 residual-requires c κs = search needs
 
 far-requires : tie.Need-far-requires
-far-requires c κs = search needs
+far-requires c κs =
+    let start = c .before .before .before .before .before .before .before in
+    ((length (start .args .excess .now), start .pre .0 .ends), (omega (arith, start .pre .1 .1 .0 .1, start .pre .0 .capacities-long), start .pre .1 .1 .0 .2))
 
 amount-requires : tie.Need-amount-requires
-amount-requires c κs = search needs
+amount-requires c κs =
+    let start = c .before .before .before .before .before .before .before .before .before .before in
+    (start .pre .0, (start .pre .1 .0, (start .pre .1 .1 .0, start .pre .1 .1 .1 .0)))
 
 send-requires : tie.Need-send-requires
 send-requires c κs =

@@ -1,48 +1,88 @@
--- `phase` meets its contract. The loop's invariant: the phase stands at a moment (`Amid`), and the lists' part of the work row is as it was.
+-- `phase` meets its contract. The loop's invariant: the phase stands at a moment (`Amid`), the lists are as they were, how far they were looked
+-- through is right, and the tournament is that of the keys.
 use Prim.Native.Nat.{ℕ, _<_}
 use Rattle.table.specs.Table.{Table, tableOf}
 use Rattle.run.specs.Choice.{choose}
 use Rattle.run.specs.Phase.{Run, step}
 use Rattle.run.specs.declared.Choice.the-variants.{Node}
-use Rattle.arcs.specs.Work.{listsPart, InWork}
-use Rattle.arcs.proofs.Work.{in-work-kept}
-use Rattle.work.specs.Held.{runIn}
-use Rattle.work.proofs.Phasing.{Amid, left, amid-first, amid-in-phase, amid-few, amid-node, amid-step, amid-less, amid-end}
+use Rattle.tournament.specs.Tournament.{key, LowLabels, Tournament}
+use Rattle.arcs.specs.Work.{excessPart, labelsPart, lookedPart, SameLists, InWork}
+use Rattle.arcs.proofs.Work.{length-labels, lists-on, lists-idle, in-work-kept}
+use Rattle.work.specs.Held.{stateIn, runIn, Ready}
+use Rattle.work.proofs.Stepping.{choice-is}
+use Rattle.work.proofs.Advancing.{low-labels}
+use Rattle.work.proofs.Phasing.{Amid, left, amid-first, amid-in-phase, amid-valid, amid-few, amid-node, amid-step, amid-less, amid-end}
 use lib.ListN.{length}
 use native.Mathlib.Omega.{arith}
-use borrow.Author.Needs.{needs}
 use mathlib.Core.Path.{_≡_, refl, sym, _∙_, subst⁻¹}
+use borrow.Author.Needs.{needs}
 use Rattle.work.proofs.phase.Statement.{statement}
 use Rattle.work.proofs.phase.Tie as tie
 
 abbrev Inv-loop : tie.InvT-loop
-Inv-loop n s t tails heads capacities flow₀ work₀ delta taken₀ flow work taken =
+Inv-loop n s t tails heads capacities flow₀ work₀ tree₀ delta taken₀ flow work tree taken =
     Amid (tableOf n s t tails heads capacities) delta (runIn n flow₀ work₀ taken₀) (runIn n flow work taken)
-    × (listsPart n work ≡ listsPart n work₀)
+    × SameLists n work₀ work
     × (length flow ≡ length flow₀)
     × (length work ≡ length work₀)
+    × (length tree ≡ length tree₀)
+    × Ready (tableOf n s t tails heads capacities) delta (stateIn n flow work) (lookedPart n work) tree
 
 abbrev μ-loop : tie.MeasureT-loop
-μ-loop n s t tails heads capacities flow₀ work₀ delta taken₀ flow work taken =
+μ-loop n s t tails heads capacities flow₀ work₀ tree₀ delta taken₀ flow work tree taken =
     left (tableOf n s t tails heads capacities) (runIn n flow₀ work₀ taken₀) (runIn n flow work taken)
+
+-- The table, and how the phase begins: its labels are low enough for keys.
+module _ (start : tie.Start Inv-loop μ-loop) where
+  abbrev table-of : Table
+  table-of = tableOf (start .args .n) (start .args .s) (start .args .t) (start .args .tails .now) (start .args .heads .now) (start .args .capacities .now)
+
+  abbrev run-of : Run
+  run-of = runIn (start .args .n) (start .args .flow .now) (start .args .work .now) (start .args .counts)
+
+  amid-begun : Amid table-of (start .args .delta) run-of run-of
+  amid-begun = amid-first table-of (start .pre .0 .0) (start .args .delta) run-of (start .pre .1 .0)
+
+  low-first : LowLabels (labelsPart (start .args .n) (start .args .work .now))
+  low-first =
+      low-labels table-of (run-of .state) (start .pre .0 .0 .rows .ends .few-nodes) (length-labels (start .args .n) (start .args .work .now) (omega (arith, start .pre .0 .1 .room)))
+      (amid-valid table-of (start .pre .0 .0) (start .args .delta) run-of run-of amid-begun)
 
 -- The entry, the table, the run there and the run at a turn of the loop.
 module _ (c : tie.At-loop Inv-loop μ-loop) where
   abbrev begun : tie.Start Inv-loop μ-loop
-  begun = c .before .before .before .before .before .before
+  begun = c .before .before .before .before .before .before .before .before .before .before .before .before
 
   abbrev table : Table
-  table = tableOf (begun .args .n) (begun .args .s) (begun .args .t) (begun .args .tails .now) (begun .args .heads .now) (begun .args .capacities .now)
+  table = table-of begun
 
   abbrev first : Run
-  first = runIn (begun .args .n) (begun .args .flow .now) (begun .args .work .now) (begun .args .counts)
+  first = run-of begun
 
   abbrev here : Run
   here = runIn (begun .args .n) (c .loop .flow) (c .loop .work) (c .loop .taken)
 
   -- The work row holds the lists still.
   in-work : InWork table (c .loop .work)
-  in-work = in-work-kept table (begun .args .work .now) (c .loop .work) (sym (c .loop .inv .1)) (sym (c .loop .inv .3)) (begun .pre .0 .1)
+  in-work = in-work-kept table (begun .args .work .now) (c .loop .work) (c .loop .inv .1) (sym (c .loop .inv .3)) (begun .pre .0 .1)
+
+-- What the tournament answers is the choice.
+module _ (c : tie.After-choose-from Inv-loop μ-loop) where
+  abbrev turning : tie.At-loop Inv-loop μ-loop
+  turning = c .before .before
+
+  answer : c .choose-from .result ≡ choose (table turning) (begun turning .args .delta) (here turning .state)
+  answer =
+      let start = begun turning in
+      let few = start .pre .0 .0 .rows .ends .few-nodes in
+      let long = length-labels (start .args .n) (turning .loop .work) (omega (arith, in-work turning .room)) in
+      let excess = excessPart (start .args .n) (turning .loop .work) in
+      let labels = labelsPart (start .args .n) (turning .loop .work) in
+      let low = low-labels (table turning) (here turning .state) few long (amid-valid (table turning) (start .pre .0 .0) (start .args .delta) (first turning) (here turning) (turning .loop .inv .0)) in
+      choice-is (table turning) (start .args .delta) (here turning .state) (c .choose-from .result)
+      (c .choose-from .ensures (start .args .delta) excess labels (omega (arith, long)) low
+      (subst⁻¹ (λ (m : ℕ). Tournament m (key (start .args .delta) excess labels) (turning .loop .tree)) long (turning .loop .inv .5 .keys)) .0)
+      long
 
 -- A node is chosen.
 module _ (c : tie.After-known-told Inv-loop μ-loop) where
@@ -53,24 +93,23 @@ module _ (c : tie.After-known-told Inv-loop μ-loop) where
   node = c .before .i .given .0 .0
 
   chosen : choose (table at) (begun at .args .delta) (here at .state) ≡ Node node
-  chosen =
-      sym (c .before .before .before .choose-node .ensures (begun at .args .s) (begun at .args .t) (begun at .args .tails .now) (begun at .args .heads .now) (begun at .args .capacities .now) (at .loop .flow))
-      ∙ c .before .i .given .1
+  chosen = sym (answer (c .before .before .before)) ∙ c .before .i .given .1
 
   next : Amid (table at) (begun at .args .delta) (first at) (step (table at) (begun at .args .delta) (here at) node)
   next = amid-step (table at) (begun at .pre .0 .0) (begun at .args .delta) (first at) (here at) (at .loop .inv .0) node chosen
 
+build-keys-requires : tie.Need-build-keys-requires Inv-loop μ-loop
+build-keys-requires c κs =
+    let start = c .before .before .before .before .before .before .before .before in
+    (start .pre .0 .0 .rows .ends .few-nodes, omega (arith, start .pre .0 .1 .room), low-first start, start .pre .1 .1 .1)
+
 loop-holds : tie.Need-loop-holds Inv-loop μ-loop
 loop-holds c =
-    let start = c .before .before .before .before .before in
-    let given = start .args in
-    let T = tableOf (given .n) (given .s) (given .t) (given .tails .now) (given .heads .now) (given .capacities .now) in
-    (amid-first T (start .pre .0 .0) (given .delta) (runIn (given .n) (given .flow .now) (given .work .now) (given .counts)) (start .pre .1), refl, refl, refl)
+    let start = c .before .before .before .before .before .before .before .before .before .before .before in
+    (amid-begun start, lists-idle (start .args .n) (start .args .work .now), refl, refl, refl, record { lists = start .pre .1 .1 .0; keys = c .before .before .build-keys .ensures })
 
-choose-node-requires : tie.Need-choose-node-requires Inv-loop μ-loop
-choose-node-requires c κs =
-    let at-loop = c .before in
-    (begun at-loop .pre .0 .0 .rows .ends .few-nodes, omega (arith, in-work at-loop .room))
+choose-from-requires : tie.Need-choose-from-requires Inv-loop μ-loop
+choose-from-requires c κs = c .before .loop .inv .5 .keys .size
 
 enum-known-i : tie.Need-enum-known-i Inv-loop μ-loop
 enum-known-i c = search needs
@@ -78,39 +117,44 @@ enum-known-i c = search needs
 enum-told : tie.Need-enum-told Inv-loop μ-loop
 enum-told c = search needs
 
-step-requires : tie.Need-step-requires Inv-loop μ-loop
-step-requires c κs =
-    let told = c .before .before in
+turn-requires : tie.Need-turn-requires Inv-loop μ-loop
+turn-requires c κs =
+    let told = c .before .before .before in
     let m = at told in
     let start = begun m in
     let ok = start .pre .0 .0 in
     let amid = m .loop .inv .0 in (
       (ok .rows, in-work m),
       (
-        amid-in-phase (table m) ok (start .args .delta) (first m) (here m) amid,
-        amid-node (table m) ok (start .args .delta) (first m) (here m) amid (node told) (chosen told),
-        omega (arith, amid-few (table m) ok (start .args .delta) (first m) (here m) amid),
+        (
+          amid-in-phase (table m) ok (start .args .delta) (first m) (here m) amid,
+          amid-node (table m) ok (start .args .delta) (first m) (here m) amid (node told) (chosen told),
+          omega (arith, amid-few (table m) ok (start .args .delta) (first m) (here m) amid),
+        ),
+        (amid-valid (table m) ok (start .args .delta) (first m) (here m) amid, m .loop .inv .5),
       ),
     )
 
 loop-less : tie.Need-loop-less Inv-loop μ-loop
 loop-less c =
-    let stepped = c .before .before .before .before in
-    let told = stepped .before .before .before in
+    let turned = c .before .before .before .before .before .before in
+    let told = turned .before .before .before .before in
     let m = at told in
-    subst⁻¹ (λ (r : Run). left (table m) (first m) r < left (table m) (first m) (here m)) (stepped .step .ensures .0)
+    subst⁻¹ (λ (r : Run). left (table m) (first m) r < left (table m) (first m) (here m)) (turned .turn .ensures .0)
     (amid-less (table m) (begun m .pre .0 .0) (begun m .args .delta) (first m) (here m) (m .loop .inv .0) (node told) (chosen told))
 
 loop-again : tie.Need-loop-again Inv-loop μ-loop
 loop-again c =
-    let stepped = c .before .before .before .before in
-    let told = stepped .before .before .before in
+    let turned = c .before .before .before .before .before .before in
+    let told = turned .before .before .before .before in
     let m = at told in
     let inv = m .loop .inv in (
-      subst⁻¹ (Amid (table m) (begun m .args .delta) (first m)) (stepped .step .ensures .0) (next told),
-      stepped .step .ensures .1 ∙ inv .1,
-      stepped .step .kept .1 .1 .1 .1 .1 .1 .0 ∙ inv .2,
-      stepped .step .kept .1 .1 .1 .1 .1 .1 .1 .0 ∙ inv .3,
+      subst⁻¹ (Amid (table m) (begun m .args .delta) (first m)) (turned .turn .ensures .0) (next told),
+      lists-on (inv .1) (turned .turn .ensures .1 .1),
+      turned .turn .kept .1 .1 .1 .1 .1 .1 .0 ∙ inv .2,
+      turned .turn .kept .1 .1 .1 .1 .1 .1 .1 .0 ∙ inv .3,
+      turned .turn .kept .1 .1 .1 .1 .1 .1 .1 .1 .0 ∙ inv .4,
+      turned .turn .ensures .1 .0,
     )
 
 same-length : tie.Need-same-length Inv-loop μ-loop
@@ -119,14 +163,17 @@ same-length c = c .before .before .before .before .loop .inv .2
 same-length-2 : tie.Need-same-length-2 Inv-loop μ-loop
 same-length-2 c = c .before .before .before .before .loop .inv .3
 
+same-length-3 : tie.Need-same-length-3 Inv-loop μ-loop
+same-length-3 c = c .before .before .before .before .loop .inv .4 ∙ c .before .before .before .before .before .before .before .build-keys .kept .1 .1 .0
+
 returns : tie.Need-returns Inv-loop μ-loop
 returns c =
-    let m = c .before .before .before .before in
-    let start = begun m in
-    let none =
-    sym (c .before .before .choose-node .ensures (start .args .s) (start .args .t) (start .args .tails .now) (start .args .heads .now) (start .args .capacities .now) (m .loop .flow))
-    ∙ c .enum-told .given .1 in
-    (amid-end (table m) (start .pre .0 .0) (start .args .delta) (first m) (here m) (m .loop .inv .0) none, m .loop .inv .1)
+    let asked = c .before .before in
+    let m = asked .before .before in
+    let start = begun m in (
+      amid-end (table m) (start .pre .0 .0) (start .args .delta) (first m) (here m) (m .loop .inv .0) (sym (answer asked) ∙ c .enum-told .given .1),
+      (m .loop .inv .5 .lists, m .loop .inv .1),
+    )
 
 pub phase-spec : {M : Type 1} → statement M
 phase-spec =
@@ -134,13 +181,15 @@ phase-spec =
     (tie.spec
     Inv-loop
     μ-loop
+    build-keys-requires
     loop-holds
-    choose-node-requires
+    choose-from-requires
     enum-known-i
     enum-told
-    step-requires
+    turn-requires
     loop-less
     loop-again
     same-length
     same-length-2
+    same-length-3
     returns)

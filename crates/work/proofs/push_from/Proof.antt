@@ -26,7 +26,7 @@ push-requires c κs =
     let order = start .pre .1 .0 in
     let long = length-excess (given .n) (given .work .now) (start .pre .0 .1) in (
       subst⁻¹ (λ (m : ℕ). ArcRows m (given .tails .now) (given .heads .now) (given .capacities .now)) long (start .pre .0 .0),
-      (order .within, ((subst⁻¹ (λ (m : ℕ). Node m (given .i)) long (start .pre .1 .1), start .pre .1 .2), (order .most, order .together))),
+      (order .within, ((subst⁻¹ (λ (m : ℕ). Node m (given .i)) long (start .pre .1 .1), start .pre .1 .2, start .pre .1 .3), (order .most, order .together))),
     )
 
 same-length : tie.Need-same-length
