@@ -105,36 +105,42 @@ fn number(field: &[u8]) -> Option<u32> {
     u32::try_from(sum).ok()
 }
 
-/// Reads exactly so many numbers, parted by exactly one blank.
-fn numbers<const COUNT: usize>(bytes: &[u8]) -> Option<[u32; COUNT]> {
-    let mut fields = bytes.split(|byte| *byte == b' ');
-    let mut read = [0; COUNT];
-    for place in read.iter_mut() {
-        *place = number(fields.next()?)?;
-    }
-    match fields.next() {
-        Some(_) => None,
-        None => Some(read),
-    }
+/// Whether a byte parts fields: a blank or a tab.
+pub fn is_separator(byte: &u8) -> bool {
+    *byte == b' ' || *byte == b'\t'
 }
 
-/// Reads the line that begins with the fixed bytes and goes on with n and m.
+/// The fields of a line, parted by one or more separators; none if a separator stands before its first letter.
+fn fields(line: &[u8]) -> Option<Vec<&[u8]>> {
+    if line.first().is_some_and(is_separator) {
+        return None;
+    }
+    let pieces = line.split(is_separator);
+    Some(pieces.filter(|piece| !piece.is_empty()).collect())
+}
+
+/// Reads the line of p, max, n and m.
 fn size_line(line: &[u8]) -> Option<(u32, u32)> {
-    let [n, m] = numbers(line.strip_prefix(b"p max ")?)?;
-    Some((n, m))
+    match fields(line)?[..] {
+        [b"p", b"max", n, m] => Some((number(n)?, number(m)?)),
+        _ => None,
+    }
 }
 
 /// Reads a line with n, a number and a last field of one byte.
 fn end_line(line: &[u8]) -> Option<(u32, u8)> {
-    match line.strip_prefix(b"n ")? {
-        [field @ .., b' ', letter] => Some((number(field)?, *letter)),
+    match fields(line)?[..] {
+        [b"n", node, [letter]] => Some((number(node)?, *letter)),
         _ => None,
     }
 }
 
 /// Reads a line with a, the tail, the head and the capacity.
 fn arc_line(line: &[u8]) -> Option<[u32; 3]> {
-    numbers(line.strip_prefix(b"a ")?)
+    match fields(line)?[..] {
+        [b"a", tail, head, capacity] => Some([number(tail)?, number(head)?, number(capacity)?]),
+        _ => None,
+    }
 }
 
 /// Judges a text in line order, then its end at one past the last line.

@@ -2,7 +2,10 @@
 
 mod shared;
 
+use judge::compare::random::Random;
+use judge::compare::spacing::twin;
 use judge::compare::tables::OwnTable;
+use judge::compare::texts::random_text;
 use judge::desk::{desk, serve};
 use judge::refusal::Name;
 use judge::text::Given;
@@ -70,6 +73,7 @@ fn text_comments_may_stand_anywhere() {
     assert_text_read(text, &table_of(2, &[(1, 2, 6)]));
     assert_texts_refused(&[
         (" c\np max 2 0\nn 1 s\nn 2 t\n", Name::Line, 1),
+        ("\tc\np max 2 0\nn 1 s\nn 2 t\n", Name::Line, 1),
         ("C\np max 2 0\nn 1 s\nn 2 t\n", Name::Line, 1),
         ("c\nc\n\n", Name::Line, 3),
     ]);
@@ -84,7 +88,85 @@ fn text_empty_lines_are_no_comments() {
         ("p max 2 0\n\nn 1 s\nn 2 t\n", Name::Line, 2),
         ("p max 2 0\nn 1 s\nn 2 t\n\n", Name::Line, 4),
         ("p max 2 0\nn 1 s\nn 2 t\n ", Name::Line, 4),
+        ("p max 2 0\nn 1 s\nn 2 t\n\t", Name::Line, 4),
+        ("p max 2 0\n \t \nn 1 s\nn 2 t\n", Name::Line, 2),
+        ("\t\n", Name::Line, 1),
     ]);
+}
+
+/// Fields are parted by one or more blanks or tabs, and any number may stand before the end of the line.
+#[test]
+fn text_fields_are_parted_by_blanks_and_tabs() {
+    let listing = table_of(4, &LISTING_ARCS);
+    let long = " ".repeat(20_000);
+    for separators in [" ", "  ", "\t", "\t\t\t", " \t", "\t ", " \t \t  ", &long] {
+        let parted = LISTING_TEXT.replace(' ', separators);
+        assert_text_read(parted.as_bytes(), &listing);
+        let parted_at_ends = parted.replace('\n', &format!("{separators}\n"));
+        assert_text_read(parted_at_ends.as_bytes(), &listing);
+        assert_text_read(parted_at_ends.trim_end_matches('\n').as_bytes(), &listing);
+    }
+    for line in [
+        "p  max 2 0",
+        "p\tmax 2 0",
+        "p \t max\t 2 \t0",
+        "p max 2 0 ",
+        "p max 2 0\t",
+        "p max 2 0 \t \t",
+    ] {
+        let text = format!("{line}\nn\t1   s\t\nn  2\tt  ");
+        assert_text_read(text.as_bytes(), &table_of(2, &[]));
+    }
+    for line in [
+        "a 1 2 3 ",
+        "a 1  2 3",
+        "a  1 2 3",
+        "a\t1 2 3",
+        "a\t1\t2\t3\t",
+        "a \t1\t 2  3",
+    ] {
+        assert_text_read(two_nodes(1, line).as_bytes(), &table_of(2, &[(1, 2, 3)]));
+        let too_many = two_nodes(0, &format!("{line}\n"));
+        assert_text_refused(too_many.as_bytes(), Name::Count, 4);
+    }
+}
+
+/// A text with other separators gives the same answer, whether it is accepted or refused.
+#[test]
+fn text_twins_have_one_answer() {
+    for index in 0..3_000 {
+        let (text, _) = random_text(11, index);
+        if let Some(twin) = twin(&mut Random::of_case(12, index), &text) {
+            assert_eq!(desk(&text), desk(&twin), "{}", shown(&text));
+        }
+    }
+}
+
+/// Reads a text line by line in the form of exactly one blank between fields and none at the ends.
+fn read_in_the_old_form(text: &str) -> Option<Vec<Vec<&str>>> {
+    let lines = text.lines().filter(|line| !line.starts_with('c'));
+    let fields = lines.map(|line| line.split(' ').collect::<Vec<_>>());
+    fields
+        .map(|line| line.iter().all(|field| !field.is_empty()).then_some(line))
+        .collect()
+}
+
+/// Every text that was accepted in the old form gives the same table.
+#[test]
+fn text_the_old_form_gives_the_same_table() {
+    for index in 0..300 {
+        let table = small_random_table(13, index, 9);
+        let text = table.text();
+        let lines = read_in_the_old_form(&text).expect("the old form");
+        assert_eq!(lines.len(), table.arcs() + 3);
+        let numbers: Vec<u32> = lines.iter().flatten().filter_map(|field| field.parse().ok()).collect();
+        let [n, m, s, t, arcs @ ..] = &numbers[..] else {
+            panic!("four numbers come first");
+        };
+        let arcs: Vec<(u32, u32, u32)> = arcs.chunks(3).map(|arc| (arc[0], arc[1], arc[2])).collect();
+        assert_eq!(*m as usize, arcs.len());
+        assert_text_read(text.as_bytes(), &OwnTable::with_arcs(*n, *s, *t, &arcs));
+    }
 }
 
 /// Lines that are not of the form of the p line are refused by LINE.
@@ -93,17 +175,28 @@ fn text_the_first_line_has_its_form() {
     for line in [
         "p max 2",
         "p max 2 ",
-        "p max 2 0 ",
+        "p max 2 \t ",
         "p max 2 0 0",
-        "p max  2 0",
-        "p max 2  0",
-        "p  max 2 0",
+        "p max 2 0\t0",
         " p max 2 0",
-        "p max\t2 0",
-        "p max 2\t0",
+        "\tp max 2 0",
+        " \t p max 2 0",
         "p max 2 0\r",
+        "p max 2 0 \r",
+        "p max\r2 0",
+        "p\rmax 2 0",
+        "p\x0bmax 2 0",
+        "p max\x0b2 0",
+        "p max 2\x0c0",
+        "p max 2 0\x0b",
+        "p max 2 0\0",
+        "p max 2\u{a0}0",
         "p min 2 0",
         "pmax 2 0",
+        "p max2 0",
+        "p max2 2 0",
+        "p ma x 2 0",
+        "p m\tax 2 0",
         "P max 2 0",
         "p MAX 2 0",
         "p max ",
@@ -130,16 +223,21 @@ fn text_the_first_line_has_its_form() {
 #[test]
 fn text_the_ends_have_their_form_and_order() {
     for line in [
-        "n 1 s ",
-        "n 1  s",
-        "n  1 s",
-        "n\t1 s",
         " n 1 s",
+        "\tn 1 s",
+        "n1 s",
+        "n 1s",
         "n 1 s\r",
+        "n 1 s \r",
+        "n\x0b1 s",
+        "n 1\rs",
         "n 1",
         "n 1 ",
+        "n 1\t\t",
         "n s",
         "n  s",
+        "n\t \ts",
+        "n 1 s t",
         "n 1 x",
         "n 1 S",
         "n 1 ss",
@@ -175,14 +273,19 @@ fn text_the_arcs_have_their_form() {
     for line in [
         "a 1 2",
         "a 1 2 ",
-        "a 1 2 3 ",
+        "a 1 2\t \t",
         "a 1 2 3 4",
-        "a 1  2 3",
-        "a  1 2 3",
+        "a 1 2 3\t4",
+        "a 1 2 1 0",
         " a 1 2 3",
+        "\ta 1 2 3",
         "a 1 2 3\r",
-        "a\t1 2 3",
+        "a 1 2 3 \r",
+        "a 1 2 3\x0b",
+        "a\x0b1 2 3",
+        "a 1\r2 3",
         "a1 2 3",
+        "a\t12 3",
         "A 1 2 3",
         "a 01 2 3",
         "a 1 2 03",

@@ -9,7 +9,7 @@ use Rattle.table.specs.Ascii.{bytes}
 use Rattle.table.specs.Refusals.{numberOf, names, nameText}
 use Rattle.table.specs.declared.Name.{Name}
 use Rattle.table.proofs.Numbers.{number-known}
-use Rattle.scan.specs.Parts.{upTo}
+use Rattle.scan.specs.Parts.{run}
 use Rattle.report.specs.Words.{wordOf}
 
 -- All names in the order of their numbers, each filled up with blanks.
@@ -32,7 +32,7 @@ word-at (suc count) (suc k) bytes h =
 
 -- The words of the line are the names.
 words-are : words 23 line ≡ names
-unfolding words names upTo
+unfolding words names run
 words-are = refl
 
 -- The word in the cell of a name's number is its letters.

@@ -2,8 +2,9 @@
 use Prim.Native.Nat.{ℕ}
 use mathlib.Core.List.{List}
 use lib.ListN.{take}
-use Rattle.scan.specs.Parts.{BLANK, upTo}
+use Prim.Native.Char.{code}
+use Rattle.scan.specs.Parts.{upTo}
 
 -- The word at the front of some bytes: up to the first blank.
 abbrev pub wordOf : List ℕ → List ℕ
-wordOf bytes = take (upTo BLANK bytes) bytes
+wordOf bytes = take (upTo (code " ") bytes) bytes

@@ -4,7 +4,7 @@ use mathlib.Core.Path.{_≡_, sym, _∙_}
 use mathlib.Core.Bool.{Bool}
 use mathlib.Core.List.{List}
 use lib.ListN.{length, drop}
-use Rattle.scan.specs.Parts.{upTo, beginsWith, fields}
+use Rattle.scan.specs.Parts.{upTo, beginsWith, isThese, fields}
 use Rattle.scan.specs.Fields.{fieldAt, numberAt, isLetter}
 use Rattle.scan.specs.Numbers.{numberIn}
 use Rattle.scan.specs.declared.Number.{Number}
@@ -32,6 +32,10 @@ number-at-unique line k a b p q = p ∙ sym q
 -- and whether it is a letter.
 pub has-letter-unique : (line : List ℕ) (k letter : ℕ) (a b : Bool) → a ≡ isLetter letter (fieldAt line k) → b ≡ isLetter letter (fieldAt line k) → a ≡ b
 has-letter-unique line k letter a b p q = p ∙ sym q
+
+-- Whether a field is these fixed bytes.
+pub has-bytes-unique : (line : List ℕ) (k : ℕ) (these : List ℕ) (a b : Bool) → a ≡ isThese these (fieldAt line k) → b ≡ isThese these (fieldAt line k) → a ≡ b
+has-bytes-unique line k these a b p q = p ∙ sym q
 
 -- The number that a field says.
 pub read-number-unique : (field : List ℕ) (a b : Number) → a ≡ numberIn field → b ≡ numberIn field → a ≡ b

@@ -5,10 +5,12 @@ pub mod caller;
 pub mod calls;
 pub mod random;
 pub mod readings;
+pub mod spacing;
 pub mod tables;
 pub mod texts;
 
 use self::caller::{expected, sent, Call};
+use self::random::Random;
 use self::texts::random_text;
 use crate::desk::desk;
 use crate::refusal::Name;
@@ -28,6 +30,9 @@ pub struct Comparison {
 /// From so many cases on, a comparison must have seen all that it is for.
 pub const ENOUGH: u64 = 5_000;
 
+/// Every so many texts, one is compared with its twin of other separators.
+const TWINS_EVERY: u64 = 8;
+
 /// What was seen: how often each thing came, and the cases that differed.
 #[derive(Default)]
 pub struct Seen {
@@ -39,6 +44,13 @@ impl Seen {
     /// Counts a thing that was seen.
     fn count(&mut self, thing: String) {
         *self.times.entry(thing).or_insert(0) += 1;
+    }
+
+    /// Counts things that were seen.
+    fn count_all(&mut self, things: impl IntoIterator<Item = String>) {
+        for thing in things {
+            self.count(thing);
+        }
     }
 
     /// Takes over what another part of the comparison saw.
@@ -83,24 +95,58 @@ pub fn outcome(answer: &[u8]) -> String {
     }
 }
 
+/// Tells that what the desk prints for a text differs from what it must print.
+fn tell_difference(what: &str, ours: &[u8], theirs: &[u8]) {
+    println!("{what} differs:");
+    println!("-- the judge:\n{}", String::from_utf8_lossy(ours));
+    println!("-- the desk:\n{}", String::from_utf8_lossy(theirs));
+}
+
+/// Compares one text.
+fn compare_text(comparison: &Comparison, index: u64, seen: &mut Seen) {
+    let (text, brought) = random_text(comparison.seed, index);
+    let ours = desk(&text);
+    let theirs = printed(&comparison.command, &text);
+    if ours != theirs {
+        seen.differing.push(index);
+        tell_difference(&format!("text {index} at seed {}", comparison.seed), &ours, &theirs);
+    }
+    let outcome = outcome(&ours);
+    if outcome == "solved" {
+        seen.count_all(spacing::runs_met(&text));
+    }
+    seen.count(outcome);
+    seen.count(format!("of {} bytes", length_class(text.len())));
+    seen.count_all(brought);
+    if index % TWINS_EVERY == 0 {
+        compare_twin(comparison, index, &text, &theirs, seen);
+    }
+}
+
+/// Compares what the desk printed for a text with what it prints for the text with other separators.
+fn compare_twin(comparison: &Comparison, index: u64, text: &[u8], theirs: &[u8], seen: &mut Seen) {
+    let random = &mut Random::of_case(!comparison.seed, index);
+    let Some(twin) = spacing::twin(random, text) else {
+        return;
+    };
+    let of_twin = printed(&comparison.command, &twin);
+    if of_twin != theirs || of_twin != desk(&twin) {
+        seen.differing.push(index);
+        tell_difference(
+            &format!("the twin of text {index} at seed {}", comparison.seed),
+            theirs,
+            &of_twin,
+        );
+    }
+    let form = if spacing::is_old_form(text) { "old" } else { "new" };
+    seen.count(format!("twin of the {form} form: {}", outcome(theirs)));
+}
+
 /// Compares every `step`-th text from `first` on.
 fn compare_some_texts(comparison: &Comparison, first: u64, step: u64) -> Seen {
     let mut seen = Seen::default();
     for index in (first..comparison.count).step_by(step as usize) {
-        let (text, brought) = random_text(comparison.seed, index);
-        let ours = desk(&text);
-        let theirs = printed(&comparison.command, &text);
-        if ours != theirs {
-            seen.differing.push(index);
-            println!("text {index} at seed {} differs:", comparison.seed);
-            println!("-- the judge:\n{}", String::from_utf8_lossy(&ours));
-            println!("-- the desk:\n{}", String::from_utf8_lossy(&theirs));
-        }
-        seen.count(outcome(&ours));
-        seen.count(format!("of {} bytes", length_class(text.len())));
-        for thing in brought {
-            seen.count(thing);
-        }
+        compare_text(comparison, index, &mut seen);
     }
     seen
 }
@@ -132,7 +178,7 @@ pub fn compare_texts(comparison: &Comparison) -> Seen {
 }
 
 /// What every comparison of texts must have seen: each damage and bound, each refusal of a text, each length at the
-/// desk's bound.
+/// desk's bound, each run of separators in a solved text, and twins of solved and refused texts.
 pub fn wanted_of_texts() -> Vec<String> {
     use Name::*;
     let names = [Nodes, Arcs, Ends, Node, Loop, Capacity, Line, Count, Long];
@@ -140,6 +186,9 @@ pub fn wanted_of_texts() -> Vec<String> {
     wanted.extend(names.map(|name| name.word().to_string()));
     wanted.extend(["0", "65536", "65537", "more"].map(|length| format!("of {length} bytes")));
     wanted.extend(texts::wanted());
+    wanted.extend(spacing::wanted_runs());
+    let twins = "old form: solved,old form: LINE,old form: COUNT,new form: solved,new form: LINE";
+    wanted.extend(twins.split(',').map(|twin| format!("twin of the {twin}")));
     wanted
 }
 
@@ -191,9 +240,7 @@ pub fn compare_calls(calls: &Calls, comparison: &Comparison) -> Seen {
                 comparison.seed
             );
         }
-        for thing in (calls.brought)(&call, &numbers) {
-            seen.count(thing);
-        }
+        seen.count_all((calls.brought)(&call, &numbers));
     }
     drop(to);
     let ended = caller.wait().expect("the caller ends");

@@ -1,6 +1,8 @@
 //! Random texts for the desk, valid and damaged.
 use super::random::Random;
+use super::spacing::{self, field_places, gaps, respaced, run, run_of, without_last_separators};
 use super::tables::{put_fault, random_table, Fault, OwnTable, FAULTS};
+use crate::desk::LONGEST_INPUT;
 
 /// What is done to a text before it is given to the desk.
 #[derive(Clone, Copy, PartialEq, Eq, Debug)]
@@ -20,10 +22,15 @@ pub enum Damage {
     FieldMore,
     FieldLess,
     EmptyLine,
-    BlankAtEnd,
-    BlankInFront,
-    TwoBlanks,
-    BlankDropped,
+    SeparatorsAtEnd,
+    SeparatorsInFront,
+    SeparatorsMore,
+    SeparatorsDropped,
+    SeparatorsInNumber,
+    SeparatorsAfterP,
+    SeparatorsOnly,
+    LineOfBlanks,
+    OddSeparator,
     OddByte,
     OddByteInComment,
     CarriageReturns,
@@ -55,10 +62,15 @@ fn damages() -> Vec<Damage> {
         FieldMore,
         FieldLess,
         EmptyLine,
-        BlankAtEnd,
-        BlankInFront,
-        TwoBlanks,
-        BlankDropped,
+        SeparatorsAtEnd,
+        SeparatorsInFront,
+        SeparatorsMore,
+        SeparatorsDropped,
+        SeparatorsInNumber,
+        SeparatorsAfterP,
+        SeparatorsOnly,
+        LineOfBlanks,
+        OddSeparator,
         OddByte,
         OddByteInComment,
         CarriageReturns,
@@ -73,6 +85,18 @@ fn damages() -> Vec<Damage> {
     all
 }
 
+/// How the fields of a text are parted before it is damaged.
+#[derive(Clone, Copy, PartialEq, Eq, Debug)]
+enum Spacing {
+    OneBlank,
+    Runs,
+    TabsOnly,
+    OneLongRun,
+}
+
+/// All ways to part the fields.
+const SPACINGS: [Spacing; 4] = [Spacing::OneBlank, Spacing::Runs, Spacing::TabsOnly, Spacing::OneLongRun];
+
 /// A text as lines, and whether its last LF is there.
 struct Draft {
     lines: Vec<Vec<u8>>,
@@ -80,7 +104,7 @@ struct Draft {
 }
 
 /// Bytes that stand in no line of its form.
-const ODD_BYTES: [u8; 14] = [b'\t', b'\r', 0, 11, 12, 127, 128, 160, 194, 255, b'-', b'+', b'.', b'c'];
+const ODD_BYTES: [u8; 13] = [b'\r', 0, 11, 12, 127, 128, 160, 194, 255, b'-', b'+', b'.', b'c'];
 
 /// The lines of a table, its n lines in either order.
 fn drafted(random: &mut Random, table: &OwnTable) -> Draft {
@@ -117,14 +141,52 @@ fn some_gap(random: &mut Random, draft: &Draft) -> usize {
 
 /// Changes one field of a line that is all digits.
 fn change_number(random: &mut Random, line: &mut Vec<u8>, change: impl Fn(&mut Random, &[u8]) -> Vec<u8>) {
-    let mut fields: Vec<Vec<u8>> = line.split(|byte| *byte == b' ').map(<[u8]>::to_vec).collect();
-    let is_number = |field: &Vec<u8>| !field.is_empty() && field.iter().all(u8::is_ascii_digit);
-    let numbers: Vec<usize> = (0..fields.len()).filter(|k| is_number(&fields[*k])).collect();
+    let mut numbers = field_places(line);
+    numbers.retain(|field| line[field.clone()].iter().all(u8::is_ascii_digit));
     if !numbers.is_empty() {
-        let k = random.one_of(&numbers);
-        fields[k] = change(random, &fields[k]);
-        *line = fields.join(&b' ');
+        let field = numbers.swap_remove(random.place(numbers.len()));
+        let changed = change(random, &line[field.clone()]);
+        line.splice(field, changed);
     }
+}
+
+/// A number with separators inside, beside it if it has one digit.
+fn parted_number(random: &mut Random, number: &[u8]) -> Vec<u8> {
+    let at = number.len().min(random.place(number.len()) + 1);
+    [&number[..at], &run(random), &number[at..]].concat()
+}
+
+/// Changes one run of separators between fields of a line.
+fn change_gap(random: &mut Random, line: &mut Vec<u8>, change: impl Fn(&mut Random) -> Vec<u8>) {
+    let mut gaps = gaps(line);
+    if !gaps.is_empty() {
+        let gap = gaps.swap_remove(random.place(gaps.len()));
+        let changed = change(random);
+        line.splice(gap, changed);
+    }
+}
+
+/// The line without its last field and the separators beside it.
+fn without_last_field(line: &[u8]) -> Vec<u8> {
+    let last = field_places(line).pop();
+    without_last_separators(&line[..last.map_or(0, |field| field.start)]).to_vec()
+}
+
+/// A byte in the place of a separator.
+fn odd_separator(random: &mut Random) -> Vec<u8> {
+    random
+        .one_of(&[
+            &b"\r"[..],
+            b"\x0b",
+            b"\x0c",
+            b"\xa0",
+            b"\0",
+            b",",
+            b" \r",
+            b"\x0b ",
+            b" \0 ",
+        ])
+        .to_vec()
 }
 
 /// A number with zeros in front.
@@ -176,7 +238,7 @@ fn other_letter(random: &mut Random, line: &mut Vec<u8>) {
         ("p max", "P max"),
         ("p max", "p maxx"),
         ("p max ", "p max"),
-        ("p max", "p  max"),
+        ("p max", "p ma x"),
         ("p max", "x max"),
         ("n ", "N "),
         (" s", " S"),
@@ -192,11 +254,6 @@ fn other_letter(random: &mut Random, line: &mut Vec<u8>) {
         ("a ", "f "),
     ]);
     *line = text.replacen(from, to, 1).into_bytes();
-}
-
-/// The places of blanks in a line.
-fn blanks(line: &[u8]) -> Vec<usize> {
-    (0..line.len()).filter(|k| line[*k] == b' ').collect()
 }
 
 /// A comment of any bytes but LF.
@@ -219,7 +276,9 @@ fn odd_arc(random: &mut Random) -> Vec<u8> {
             "a 1 2 ",
             "a 1 2 3 4",
             "a 1 2 x",
-            "a 1  2 3",
+            "a1 2 3",
+            "a\t1\t2 \t",
+            " a 1 2 3",
             "a 01 2 3",
             "a 1 2 4294967296",
         ])
@@ -251,21 +310,15 @@ fn damage_line(random: &mut Random, line: &mut Vec<u8>, damage: Damage) {
         Damage::NoNumber => change_number(random, line, no_number),
         Damage::OtherLetter => other_letter(random, line),
         Damage::FieldMore => line.extend_from_slice(b" 1"),
-        Damage::FieldLess => line.truncate(blanks(line).last().copied().unwrap_or(0)),
-        Damage::BlankAtEnd => line.push(b' '),
-        Damage::BlankInFront => line.insert(0, b' '),
-        Damage::TwoBlanks | Damage::BlankDropped => {
-            let places = blanks(line);
-            if places.is_empty() {
-                return;
-            }
-            let place = random.one_of(&places);
-            if damage == Damage::TwoBlanks {
-                line.insert(place, b' ');
-            } else {
-                line.remove(place);
-            }
+        Damage::FieldLess => *line = without_last_field(line),
+        Damage::SeparatorsAtEnd => line.extend(run(random)),
+        Damage::SeparatorsInFront => {
+            line.splice(0..0, run(random));
         }
+        Damage::SeparatorsMore => change_gap(random, line, run),
+        Damage::SeparatorsDropped => change_gap(random, line, |_| Vec::new()),
+        Damage::SeparatorsInNumber => change_number(random, line, parted_number),
+        Damage::OddSeparator => change_gap(random, line, odd_separator),
         Damage::OddByte => {
             let byte = random.one_of(&ODD_BYTES);
             let place = random.place(line.len() + 1);
@@ -297,7 +350,7 @@ fn damage_text(random: &mut Random, draft: &mut Draft, damage: Damage) {
         }
         Damage::SameEndTwice => {
             for line in draft.lines.iter_mut().filter(|line| line.first() == Some(&b'n')) {
-                let last = line.len() - 1;
+                let last = without_last_separators(line).len() - 1;
                 line[last] = b's';
             }
         }
@@ -318,11 +371,21 @@ fn damage_text(random: &mut Random, draft: &mut Draft, damage: Damage) {
         Damage::OtherCount => {
             let arcs = draft.lines.len().saturating_sub(3) as u32;
             let count = random.one_of(&[arcs + 1, arcs.saturating_sub(1), 0, 4096, 4097, u32::MAX]);
-            for line in draft.lines.iter_mut().filter(|line| line.starts_with(b"p max ")) {
-                line.truncate(blanks(line).last().copied().unwrap_or(0));
+            for line in draft.lines.iter_mut().filter(|line| line.first() == Some(&b'p')) {
+                *line = without_last_field(line);
                 line.extend_from_slice(format!(" {count}").as_bytes());
             }
         }
+        Damage::SeparatorsAfterP => {
+            for line in draft.lines.iter_mut().filter(|line| line.first() == Some(&b'p')) {
+                let run = run(random);
+                if let Some(gap) = gaps(line).into_iter().next() {
+                    line.splice(gap, run);
+                }
+            }
+        }
+        Damage::SeparatorsOnly => draft.lines.insert(gap, run(random)),
+        Damage::LineOfBlanks => draft.lines.insert(gap, vec![b' '; 65_000]),
         Damage::EmptyLine => draft.lines.insert(random.one_of(&[gap, draft.lines.len()]), Vec::new()),
         Damage::OddByteInComment => {
             let mut line = comment(random);
@@ -353,6 +416,35 @@ fn damage_text(random: &mut Random, draft: &mut Draft, damage: Damage) {
     }
 }
 
+/// Makes one run of separators long, for itself or up to the desk's bound.
+fn add_long_run(random: &mut Random, draft: &mut Draft) {
+    let bound = random.one_of(&[LONGEST_INPUT, LONGEST_INPUT, LONGEST_INPUT + 1]);
+    let room = bound.saturating_sub(joined(draft).len());
+    let line = some_line(random, draft);
+    let length = random.one_of(&[1_000, 4_095, 65_000, room]).min(room);
+    if let Some(one) = line {
+        change_gap(random, &mut draft.lines[one], |random| run_of(random, length + 1));
+    }
+}
+
+/// Parts the fields of the whole text in this way.
+fn space_out(random: &mut Random, draft: &mut Draft, spacing: Spacing) {
+    let longest = spacing::longest_for(draft.lines.len());
+    match spacing {
+        Spacing::OneBlank => {}
+        Spacing::Runs => {
+            for line in draft.lines.iter_mut() {
+                *line = respaced(random, line, longest);
+            }
+        }
+        Spacing::TabsOnly => {
+            let bytes = draft.lines.iter_mut().flatten();
+            bytes.filter(|byte| **byte == b' ').for_each(|byte| *byte = b'\t');
+        }
+        Spacing::OneLongRun => add_long_run(random, draft),
+    }
+}
+
 /// Puts comments anywhere.
 fn add_comments(random: &mut Random, draft: &mut Draft) {
     for _ in 0..random.between(0, 3) {
@@ -374,6 +466,7 @@ fn chosen(random: &mut Random) -> Vec<Damage> {
             Damage::OnlyLf,
             Damage::OnlyComments,
             Damage::FullLength,
+            Damage::LineOfBlanks,
             Damage::TableFault(Fault::ManyArcs),
         ];
         if !rare.contains(&damage) || random.once_in(6) {
@@ -400,11 +493,12 @@ fn bounds_met(table: &OwnTable) -> Vec<String> {
     met
 }
 
-/// All that random texts are to bring: each damage, and each bound.
+/// All that random texts are to bring: each damage, each way to part fields, and each bound.
 pub fn wanted() -> Vec<String> {
     let bounds = "n 1,n 2,n 512,n 513,m 0,m 4096,m 4097,capacity 0,capacity 1000000,capacity 1000001";
     let mut wanted: Vec<String> = bounds.split(',').map(str::to_string).collect();
     wanted.extend(damages().iter().map(|damage| format!("{damage:?}")));
+    wanted.extend(SPACINGS.map(|spacing| format!("{spacing:?}")));
     wanted
 }
 
@@ -417,6 +511,10 @@ pub fn text_with(random: &mut Random, damages: &[Damage]) -> (Vec<u8>, Vec<Strin
         }
     }
     let mut draft = drafted(random, &table);
+    let [one_blank, runs, ..] = SPACINGS;
+    let any = random.one_of(&SPACINGS);
+    let spacing = random.one_of(&[one_blank, one_blank, one_blank, runs, runs, any]);
+    space_out(random, &mut draft, spacing);
     if random.once_in(2) {
         add_comments(random, &mut draft);
     }
@@ -427,6 +525,7 @@ pub fn text_with(random: &mut Random, damages: &[Damage]) -> (Vec<u8>, Vec<Strin
     }
     let mut brought = bounds_met(&table);
     brought.extend(damages.iter().map(|damage| format!("{damage:?}")));
+    brought.push(format!("{spacing:?}"));
     (joined(&draft), brought)
 }
 

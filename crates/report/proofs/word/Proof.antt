@@ -2,11 +2,13 @@
 use Prim.Native.Nat.{_+_, _-_}
 use mathlib.Core.Path.{_≡_, ap}
 use native.Mathlib.Omega.{arith}
+use mathlib.Core.Bool.{not}
+use lib.Dec.{eqb}
 use lib.ListN.{take, drop}
 use denote.Ref.{now}
 use borrow.Author.Needs.{needs}
 use Rattle.scan.specs.Parts.{upTo}
-use Rattle.scan.proofs.Parting.{upTo-within}
+use Rattle.scan.proofs.Parting.{run-within}
 use Rattle.report.proofs.word.Statement.{statement}
 use Rattle.report.proofs.word.Tie as tie
 
@@ -22,7 +24,7 @@ part-result-start c = search needs
 part-result-end : tie.Need-part-result-end
 part-result-end c =
     let start = c .before .before in
-    omega (arith, c .find .ensures, upTo-within 32 (now (start .args .line)) (start .args .from) (start .pre))
+    omega (arith, c .find .ensures, run-within (λ b. not (eqb b 32)) (now (start .args .line)) (start .args .from) (start .pre))
 
 returns : tie.Need-returns
 returns c =
