@@ -1,12 +1,12 @@
 -- What the arc search and the relabel's least label answer.
 use Prim.Native.Nat.{ℕ, _+_, _≤_, _<_, min}
 use mathlib.Core.Path.{_≡_, refl, ap, ap₂, sym, subst, _∙_}
-use mathlib.Core.Bool.{Bool, true, false, true≢false, _||_, _&&_}
+use mathlib.Core.Bool.{Bool, true, false, true≢false, _&&_}
 use mathlib.Core.List.{List, [], _∷_, List·Memᴰ, List·Memᴰ·not-nil, List·Memᴰ·cases-cons}
 use mathlib.Core.List.List·Memᴰ.{List·Memᴰ·head, List·Memᴰ·tail}
 use mathlib.Core.Logic.{_⊎_, inl, inr, ⊎-elim}
 use native.Mathlib.Omega.{arith}
-use borrow.Author.Tests.{ltb-true, ltb-false, lt-ltb, eqb-true, eq-eqb, ne-eqb}
+use borrow.Author.Tests.{ltb-true, ltb-false, lt-ltb, eqb-true, eq-eqb}
 use lib.Dec.{eqb, ltb}
 use Rattle.rows.specs.Row.{atNode, atPlace}
 use Rattle.rows.specs.Row.{Node as NodeOf}
@@ -14,8 +14,8 @@ use Rattle.rows.proofs.Sums.{by-test, both-true}
 use Rattle.network.specs.Network.{nearEnd, farEnd, residualOver}
 use Rattle.network.proofs.Notions.{Sound, ResidualFrom, far-end-node}
 use Rattle.network.proofs.Steps.{Eligible, NewLabel}
-use Rattle.table.specs.Table.{Table, arcs, tail, head, networkOf}
-use Rattle.arcs.specs.Residual.{way, far, residual, touches, list}
+use Rattle.table.specs.Table.{Table, arcs, networkOf}
+use Rattle.arcs.specs.Residual.{way, far, residual, list}
 use Rattle.run.specs.Start.{State}
 use Rattle.run.specs.Push.{eligible, firstEligible}
 use Rattle.run.specs.Relabel.{lesser, leastFar, top, newLabel}
