@@ -1,5 +1,5 @@
-/* Microseconds of opening one arc of a solved table at n = 512, m = 4,096, and of solving the new table afresh; each the least of a few turns. Value and side
-   must be the same both ways. */
+/* Microseconds of opening one arc of a solved table, and of solving the new table afresh, at n = 64, 128, 256, 512 and m = 8n; each the least of a few turns.
+   Value and side must be the same both ways. */
 #include <stdio.h>
 #include <stdlib.h>
 #include <string.h>
@@ -7,12 +7,12 @@
 
 #include "jorrabide.h"
 
-enum { NODES = 512, ARCS = 4096, WORK = 4 * NODES + 2 * ARCS + 1, TURNS = 5, CHAIRS = 8 };
+enum { MOST_NODES = 512, MOST_ARCS = 8 * MOST_NODES, MOST_WORK = 4 * MOST_NODES + 2 * MOST_ARCS + 1, TURNS = 5, CHAIRS = 8 };
 
-static uint32_t tails[ARCS], heads[ARCS], capacities[ARCS], work[WORK];
-static uint32_t old_flow[ARCS], flow[ARCS], fresh_flow[ARCS];
-static uint8_t old_side[NODES], side[NODES], fresh_side[NODES];
-static uint32_t state;
+static uint32_t tails[MOST_ARCS], heads[MOST_ARCS], capacities[MOST_ARCS], work[MOST_WORK];
+static uint32_t old_flow[MOST_ARCS], flow[MOST_ARCS], fresh_flow[MOST_ARCS];
+static uint8_t old_side[MOST_NODES], side[MOST_NODES], fresh_side[MOST_NODES];
+static uint32_t nodes, arcs, state;
 
 /* A draw of docs/FAMILIES.md. */
 static uint32_t draw(void) {
@@ -28,7 +28,7 @@ static double now(void) {
 }
 
 /* Sets one arc. */
-static void arc(int k, uint32_t tail, uint32_t head, uint32_t capacity) {
+static void arc(uint32_t k, uint32_t tail, uint32_t head, uint32_t capacity) {
     tails[k] = tail;
     heads[k] = head;
     capacities[k] = capacity;
@@ -36,10 +36,10 @@ static void arc(int k, uint32_t tail, uint32_t head, uint32_t capacity) {
 
 /* The over-asked clinic week, family 2 of docs/FAMILIES.md. */
 static void make_week(void) {
-    const uint32_t q = (NODES - 2) / 3;
+    const uint32_t q = (nodes - 2) / 3;
     state = 2026 + 2;
-    for (int k = 0; k < ARCS; k++) {
-        uint32_t a = draw(), b = draw(), c = draw(), j = (uint32_t)k % q, layer = (uint32_t)k / q;
+    for (uint32_t k = 0; k < arcs; k++) {
+        uint32_t a = draw(), b = draw(), c = draw(), j = k % q, layer = k / q;
         if (layer == 0)
             arc(k, 1, 2 + j, 100 + c % 200);
         else if (layer == 1)
@@ -47,7 +47,7 @@ static void make_week(void) {
         else if (layer == 2)
             arc(k, 2 + q + j, 2 + 2 * q + j, 50);
         else if (layer == 3)
-            arc(k, 2 + 2 * q + j, NODES, 1 + c % 20);
+            arc(k, 2 + 2 * q + j, nodes, 1 + c % 20);
         else if (k % 2 == 0)
             arc(k, 2 + a % q, 2 + q + b % q, 1 + c % 30);
         else
@@ -59,29 +59,29 @@ static void make_week(void) {
 static void make_door(void) {
     state = 2026;
     arc(0, 1, 2, 0);
-    for (int k = 1; k < ARCS; k++) {
-        uint32_t a = draw(), b = draw(), c = draw(), x = a % (NODES - 1), y = (x + 1 + b % (NODES - 2)) % (NODES - 1);
-        arc(k, 2 + x, 2 + y, c % 1000001);
+    for (uint32_t k = 1; k < arcs; k++) {
+        uint32_t a = draw(), b = draw(), c = draw(), x = a % (nodes - 1), y = (x + 1 + b % (nodes - 2)) % (nodes - 1);
+        arc(k, 2 + x, 2 + y, c % 50001);
     }
 }
 
-/* A shut door before rows of eight nodes, each row joined to the next at random: chains of one length, with many equals. */
+/* A shut door before rows of eight nodes, each row joined to the next at random: long chains, and many of them. */
 static void make_rows(void) {
-    const uint32_t rows = (NODES - 3) / 8;
+    const uint32_t rows = (nodes - 3) / 8;
     state = 2027;
     arc(0, 1, 2, 0);
-    for (int k = 1; k < ARCS; k++) {
-        uint32_t a = draw(), b = draw(), c = draw(), r = (uint32_t)k % (rows + 1);
-        uint32_t tail = r == 0 ? 2 : 3 + (r - 1) * 8 + a % 8, head = r == rows ? NODES : 3 + r * 8 + b % 8;
+    for (uint32_t k = 1; k < arcs; k++) {
+        uint32_t a = draw(), b = draw(), c = draw(), r = k % (rows + 1);
+        uint32_t tail = r == 0 ? 2 : 3 + (r - 1) * 8 + a % 8, head = r == rows ? nodes : 3 + r * 8 + b % 8;
         arc(k, tail, head, 1 + c % 50);
     }
 }
 
-/* A line of 511 arcs, with falling places, whose last opens; all other arcs are beside its first. */
+/* A line of n - 1 arcs with falling places, whose last opens; all other arcs are beside its first. */
 static void make_line(void) {
-    for (int k = 0; k < ARCS; k++) {
-        uint32_t i = k < NODES - 1 ? (uint32_t)(NODES - 1 - k) : 1;
-        arc(k, i, i + 1, k == 0 ? 0 : 1);
+    for (uint32_t k = 0; k < arcs; k++) {
+        uint32_t i = k < nodes - 1 ? nodes - 1 - k : 1;
+        arc(k, i, i + 1, k != 0);
     }
 }
 
@@ -95,7 +95,7 @@ static void must(int holds, const char *what) {
 /* Solves into these rows; the value. */
 static uint64_t solve(uint32_t *into, uint8_t *marks) {
     struct jorrabide_answer r =
-        jorrabide_solve(NODES, 1, NODES, 7, tails, ARCS, heads, ARCS, capacities, ARCS, into, ARCS, marks, NODES, work, WORK);
+        jorrabide_solve(nodes, 1, nodes, 7, tails, arcs, heads, arcs, capacities, arcs, into, arcs, marks, nodes, work, MOST_WORK);
     must(r.refusal == 0, "solving refuses");
     return r.value;
 }
@@ -115,7 +115,7 @@ static void open_place(uint32_t place, uint32_t capacity, uint64_t old_value) {
         memcpy(side, old_side, sizeof side);
         double began = now();
         struct jorrabide_answer r = jorrabide_open(
-            NODES, 1, NODES, 7, tails, ARCS, heads, ARCS, capacities, ARCS, place, capacity, flow, ARCS, side, NODES, work, WORK);
+            nodes, 1, nodes, 7, tails, arcs, heads, arcs, capacities, arcs, place, capacity, flow, arcs, side, nodes, work, MOST_WORK);
         double took = now() - began;
         must(r.refusal == 0 && r.stamp == 8, "opening refuses");
         value = r.value;
@@ -129,7 +129,7 @@ static void open_place(uint32_t place, uint32_t capacity, uint64_t old_value) {
         if (took < fresh) fresh = took;
     }
     capacities[place] = before;
-    must(value == fresh_value && memcmp(side, fresh_side, sizeof side) == 0, "value or side differ");
+    must(value == fresh_value && memcmp(side, fresh_side, nodes) == 0, "value or side differ");
     openings++;
     opened_sum += opened;
     if (opened > opened_most) opened_most = opened;
@@ -140,33 +140,33 @@ static void open_place(uint32_t place, uint32_t capacity, uint64_t old_value) {
 /* One line of what was measured. */
 static void report(const char *name) {
     printf(
-        "%-6s %d opened, %llu more placed: opening %.0f (largest %.0f), afresh %.0f microseconds, ratio %.4f\n", name, openings,
+        "%-5s n %3u: %d opened, %llu more placed; opening %.0f (largest %.0f), afresh %.0f microseconds, ratio %.4f\n", name, nodes, openings,
         (unsigned long long)gained, opened_sum / openings, opened_most, fresh_sum / openings, opened_sum / fresh_sum);
     opened_sum = opened_most = fresh_sum = 0;
     gained = 0;
     openings = 0;
 }
 
+/* Solves the table, and opens place 0. */
+static void open_first(const char *name, uint32_t capacity) {
+    open_place(0, capacity, solve(old_flow, old_side));
+    report(name);
+}
+
 int main(void) {
-    make_week();
-    uint64_t value = solve(old_flow, old_side);
-    for (uint32_t k = 0; k < ARCS && openings < CHAIRS; k++)
-        if (heads[k] == NODES && old_side[tails[k] - 1] == 1) open_place(k, capacities[k] + 12, value);
-    report("week");
-
-    make_door();
-    value = solve(old_flow, old_side);
-    open_place(0, 1000000, value);
-    report("door");
-
-    make_rows();
-    value = solve(old_flow, old_side);
-    open_place(0, 1000000, value);
-    report("rows");
-
-    make_line();
-    value = solve(old_flow, old_side);
-    open_place(0, 1, value);
-    report("line");
+    for (nodes = 64; nodes <= MOST_NODES; nodes *= 2) {
+        arcs = 8 * nodes;
+        make_week();
+        uint64_t value = solve(old_flow, old_side);
+        for (uint32_t k = 0; k < arcs && openings < CHAIRS; k++)
+            if (heads[k] == nodes && old_side[tails[k] - 1] == 1) open_place(k, capacities[k] + 12, value);
+        report("week");
+        make_door();
+        open_first("door", 1000000);
+        make_rows();
+        open_first("rows", 1000000);
+        make_line();
+        open_first("line", 1);
+    }
     return 0;
 }
