@@ -42,6 +42,7 @@ lowest-more test k x before = by-test (ltb x k) old (λ e. by-test (test k) (fou
     nothing : ltb x k ≡ false → test k ≡ false → LowestIs test (suc k) (cond (ltb x k) x (cond (test k) k (suc k)))
     nothing e y = rw (e, y) (λ p l. by-equal p k (λ q. ap test q ∙ y) (λ ne. none-below e p (omega arith)), inr refl)
 
+-- The lowest place is so.
 pub lowest-is : (test : ℕ → Bool) (k : ℕ) → LowestIs test k (lowest test k)
 unfolding lowest
 lowest-is test zero = (λ p l. absurd (omega arith), inr refl)

@@ -1,5 +1,4 @@
--- A chain of fewest arcs filled by its least residual: the flow stays within its bounds and conserved, and its value rises by that
--- amount, at least 1.
+-- A chain of fewest arcs filled by its least residual: the flow stays within its bounds and conserved, and its value rises by that amount, at least 1.
 use Prim.Native.Nat.{ℕ, zero, suc, _+_, _≤_, _<_, min}
 use mathlib.Core.Path.{_≡_, refl, sym, ap, subst, _∙_}
 use mathlib.Core.Logic.{_⊎_, inl, inr, ⊎-elim}
@@ -102,6 +101,7 @@ unfolding leastResidual
 least-at-most-each N flow i [] p l = absurd (omega arith)
 least-at-most-each N flow i (k ∷ ks) p l = with-least N flow (residualFrom N flow i k) i (k ∷ ks) p l
 
+-- and it is one of them.
 pub least-is-one : (N : Network) (flow : List ℕ) (i : ℕ) (ks : List ℕ) → 0 < length ks → (p : ℕ) × (p < length ks) × (leastResidual N flow i ks ≡ getD (residualsOf N flow i ks) p 0)
 unfolding leastResidual residualsOf
 least-is-one N flow i [] l = absurd (omega arith)
@@ -144,6 +144,7 @@ module _ (N : Network) (d : ℕ) where
   moved-other i k a flow long l ne =
       ap (λ f. f a) (moved-put i k flow long l) ∙ put-other (atPlace flow) k (moved (wayFrom N i k) (atPlace flow k) d) a ne
 
+  -- The row keeps its length.
   moved-long : (i k : ℕ) (flow : List ℕ) → N .m ≤ length flow → N .m ≤ length (movedAt N d i k flow)
   moved-long i k flow long = omega (arith, length-set flow k (moved (wayFrom N i k) (atPlace flow k) d))
 
@@ -235,6 +236,7 @@ module _ (N : Network) (sound : Sound N) (n : ℕ) (flow₀ row : List ℕ) (rig
   one-end e (ahead l f t h) at far = let p = ap (atNode row) t in let q = ap (atNode row) h in (omega arith, omega arith, λ x y. omega arith)
   one-end e (behind l f h t) at far = let p = ap (atNode row) t in let q = ap (atNode row) h in (omega arith, omega arith, λ x y. omega arith)
 
+  -- Each arc of a shortest chain has room for an amount in its turn, where it is at most the residuals of all.
   pub shortest-fits : {i : ℕ} {ls : List ℕ} → Chain (waysIn N flow₀) (N .t) i ls → atNode row i ≡ length ls → (flow : List ℕ) → N .m ≤ length flow → Same (length ls) flow
       → (least : ℕ) → d ≤ leastWith N flow₀ least i ls → Fits N d i ls flow
   unfolding leastWith

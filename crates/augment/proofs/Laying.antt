@@ -1,5 +1,4 @@
--- The distances by rounds are right: 0 at the sink alone, at most one more than at the far end of any open arc, and one more than at
--- the far end of some open arc.
+-- The distances by rounds are right: 0 at the sink alone, at most one more than at the far end of any open arc, and one more than at the far end of some open arc.
 use Prim.Native.Nat.{ℕ, zero, suc, _+_, _-_, _≤_, _<_}
 use mathlib.Core.Path.{_≡_, refl, sym, ap, subst, _∙_}
 use mathlib.Core.Logic.{_⊎_, inl, inr, ⊎-elim}
@@ -23,6 +22,7 @@ use Rattle.augment.proofs.Ends.{Ends, leads-within}
 pub set-there : (row : List ℕ) (i v : ℕ) → Node (length row) i → atNode (set row (i - 1) v) i ≡ v
 set-there row i v h = node-at (set row (i - 1) v) i (h .0) ∙ getD-set-same row (i - 1) v 0 (omega (arith, h .0, h .1))
 
+-- Elsewhere all is as it was.
 pub set-elsewhere : (row : List ℕ) (i v x : ℕ) → 1 ≤ i → 1 ≤ x → (x ≡ i → ⊥) → atNode (set row (i - 1) v) x ≡ atNode row x
 set-elsewhere row i v x hi hx ne =
     node-at (set row (i - 1) v) x hx ∙ getD-set-other row (i - 1) (x - 1) v 0 (λ e. ne (omega arith)) ∙ sym (node-at row x hx)
@@ -90,9 +90,11 @@ module _ (w : Ways) (n t d : ℕ) (ends : Ends n w) (ht : Node n t) (below : d <
     lay-long : length (lay n d may i j row) ≡ n
     lay-long = ⊎-elim (λ e. ap length e ∙ long) (λ c. ap length (c .3) ∙ length-set row (i - 1) (d + 1) ∙ long) (lay-cases n d may i j row)
 
+    -- Node i has d + 1 then.
     laid-there : (c : (may ≡ true) × (atNode row j ≡ d) × (atNode row i ≡ n) × (lay n d may i j row ≡ set row (i - 1) (d + 1))) → atNode (lay n d may i j row) i ≡ d + 1
     laid-there c = ap (λ r. atNode r i) (c .3) ∙ set-there row i (d + 1) (subst (λ l. Node l i) (sym long) hi)
 
+    -- Every other node has what it had.
     laid-elsewhere : (c : (may ≡ true) × (atNode row j ≡ d) × (atNode row i ≡ n) × (lay n d may i j row ≡ set row (i - 1) (d + 1)))
         → (x : ℕ) → Node n x → (x ≡ i → ⊥) → atNode (lay n d may i j row) x ≡ atNode row x
     laid-elsewhere c x hx ne = ap (λ r. atNode r x) (c .3) ∙ set-elsewhere row i (d + 1) x (hi .0) (hx .0) ne
@@ -103,6 +105,7 @@ module _ (w : Ways) (n t d : ℕ) (ends : Ends n w) (ht : Node n t) (below : d <
     none-before (inl same) e = sym same ∙ e
     none-before (inr new) e = new .0
 
+    -- Every node is as before the round, or got d + 1 by an open arc.
     lay-steps : (x : ℕ) → Node n x → Step (lay n d may i j row) x
     unfolding Step
     lay-steps x hx =
@@ -195,6 +198,7 @@ module _ (w : Ways) (n t d : ℕ) (ends : Ends n w) (ht : Node n t) (below : d <
           subst (λ x. atNode whole x ≤ d + 1) hi
           (lay-handled k (w .headAt k) (w .tailAt k) (w .back k) leads-back hh hti half half-long half-steps f (ap (atNode row₀) tj ∙ at))
 
+  -- The places below k are looked at.
   mid-at : (k : ℕ) → k ≤ w .places → Mid k (layTo w n d k row₀)
   unfolding layTo Step
   mid-at zero h = record { long = so .long; steps = λ x hx. inl refl; handled = λ p i j l. absurd (omega arith) }
@@ -250,12 +254,14 @@ module _ (w : Ways) (n t d : ℕ) (ends : Ends n w) (ht : Node n t) (below : d <
 
 -- Before any round: 0 at the sink, none elsewhere.
 module _ (w : Ways) (n t : ℕ) (ht : Node n t) where
+  -- The sink has 0, and every other node none.
   start-at : (x : ℕ) → Node n x → ((x ≡ t) × (atNode (set (replicate n n) (t - 1) 0) x ≡ 0)) ⊎ (atNode (set (replicate n n) (t - 1) 0) x ≡ n)
   start-at x hx =
       by-equal x t
       (λ e. inl (e, ap (atNode (set (replicate n n) (t - 1) 0)) e ∙ set-there (replicate n n) t 0 (subst (λ l. Node l t) (sym (length-replicate n n)) ht)))
       (λ ne. inr (set-elsewhere (replicate n n) t 0 x (ht .0) (hx .0) ne ∙ node-at (replicate n n) x (hx .0) ∙ getD-replicate n (x - 1) n 0 (omega (arith, hx .0, hx .1))))
 
+  -- That is right as far as no round tells.
   pub start-laid : Laid w n t 0 (set (replicate n n) (t - 1) 0)
   start-laid =
       record {
@@ -296,6 +302,7 @@ laid-all w n t ends row so =
     most i hi = ⊎-elim (λ l. l) (λ e. omega arith) (so .range i hi)
 
 module _ (w : Ways) (n t : ℕ) (ends : Ends n w) (ht : Node n t) where
+  -- After d rounds the distances are right as far as these tell.
   rounds-laid : (d : ℕ) → d ≤ n → Laid w n t d (rounds w n d (set (replicate n n) (t - 1) 0))
   unfolding rounds
   rounds-laid zero h = start-laid w n t ht

@@ -22,12 +22,15 @@ use Rattle.augment.proofs.Walking.{lowest-unique}
 
 -- One place more at the end of a list: each from before stays, and the last is the new one.
 module _ (l : List ℕ) (m : ℕ) where
+  -- The list is longer by one.
   longer : length (l ++ (m ∷ [])) ≡ length l + 1
   longer = length-append l (m ∷ [])
 
+  -- Each from before stays.
   from-before : (q : ℕ) → q < length l → atPlace (l ++ (m ∷ [])) q ≡ atPlace l q
   from-before q h = List·getD-append l (m ∷ []) 0 q h
 
+  -- The last is the new one.
   the-last : (q : ℕ) → q ≡ length l → atPlace (l ++ (m ∷ [])) q ≡ m
   the-last q e = ap (atPlace (l ++ (m ∷ []))) e ∙ getD-append-seam l m [] 0
 

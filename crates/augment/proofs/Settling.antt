@@ -1,5 +1,4 @@
--- Filling chains until the sink can't be reached: it ends, with a largest flow whose smallest side is the side marked; so value and
--- side are those of any other largest flow.
+-- Filling chains until the sink can't be reached: it ends, with a largest flow whose smallest side is the side marked; so value and side are those of any other largest flow.
 use Prim.Native.Nat.{ℕ, zero, suc, _+_, _≤_, _<_}
 use mathlib.Core.Path.{_≡_, refl, sym, subst, _∙_}
 use mathlib.Core.Bool.{Bool, true, false, true≢false}
@@ -48,9 +47,11 @@ module _ (N : Network) (sound : Sound N) where
         head-within = sound .heads;
       }
 
+  -- The source is a node,
   pub source-within : Node (N .n) (N .s)
   source-within = sound .source
 
+  -- and so is the sink.
   pub sink-within : Node (N .n) (N .t)
   sink-within = sound .sink
 
@@ -74,6 +75,7 @@ module _ (N : Network) (sound : Sound N) where
   -- ---- one chain filled
 
   module _ (flow : List ℕ) (long : N .m ≤ length flow) (e : reaches N flow ≡ true) where
+    -- The chain has as many arcs as the source is far.
     pub chain-even : atNode (distancesIn N flow) (N .s) ≡ length (chainIn N flow)
     chain-even = sym (chosen-long (waysIn N flow) (N .n) (N .t) (ways-ends flow) (distancesIn N flow) (distances-in flow) (atNode (distancesIn N flow) (N .s)) (N .s))
 
@@ -104,6 +106,7 @@ module _ (N : Network) (sound : Sound N) where
     pub augmented-bound : Flow N (atPlace flow) → outflow N (atPlace (augmented N flow)) (N .s) ≤ outflow N (N .capacity) (N .s)
     augmented-bound f = outflow-at-most N (atPlace (augmented N flow)) (augmented-flow f) (N .s)
 
+  -- The row keeps its length.
   pub augmented-long : (flow : List ℕ) → length (augmented N flow) ≡ length flow
   augmented-long flow = filled-long N (leastResidual N flow (N .s) (chainIn N flow)) (N .s) (chainIn N flow) flow
 
@@ -123,6 +126,7 @@ module _ (N : Network) (sound : Sound N) where
     pub long : N .m ≤ length flow
     pub valid : Flow N (atPlace flow)
 
+  -- A flow row stays one.
   pub augmented-row : (flow : List ℕ) → reaches N flow ≡ true → FlowRow flow → FlowRow (augmented N flow)
   augmented-row flow e r = record { long = omega (arith, augmented-long flow, r .long); valid = augmented-flow flow (r .long) e (r .valid) }
 
@@ -160,10 +164,12 @@ module _ (N : Network) (sound : Sound N) where
   unfolding settled
   settled-ends flow r = goOn-ends (enough N flow) flow r (omega arith)
 
+  -- What is left is a flow row,
   pub settled-row : (flow : List ℕ) → FlowRow flow → FlowRow (settled N flow)
   unfolding settled
   settled-row flow r = goOn-row (enough N flow) flow r
 
+  -- as long as before.
   pub settled-long : (flow : List ℕ) → length (settled N flow) ≡ length flow
   unfolding settled
   settled-long flow = goOn-long (enough N flow) flow
@@ -205,6 +211,7 @@ module _ (N : Network) (sound : Sound N) where
       by zero h = absurd (true≢false (sym e ∙ none-left flow r (omega arith)))
       by (suc left) h = rw e (goOn-same left (enough N (augmented N flow)) (augmented N flow) (augmented-row flow e r) (less-left left flow r e h) (omega arith))
 
+  -- Where the sink cannot be reached nothing is done.
   pub settled-stop : (flow : List ℕ) → reaches N flow ≡ false → settled N flow ≡ flow
   unfolding settled
   settled-stop flow e = goOn-still (enough N flow) flow e
@@ -254,6 +261,7 @@ module _ (N : Network) (sound : Sound N) where
       (λ e. rw e (fills (chainIn N flow) (chain-first flow e) (goOn-goes left (augmented N flow) (augmented-row flow e r) (less-left left flow r e h))))
       (λ e. rw e (stops (λ ks chain. stopped-no-chain flow e chain)))
 
+  -- so the end of it is an end of document 02's chains.
   pub settled-goes-on : (flow : List ℕ) → FlowRow flow → GoesOn N flow (settled N flow)
   unfolding settled
   settled-goes-on flow r = goOn-goes (enough N flow) flow r (omega arith)

@@ -43,14 +43,17 @@ vacant-most n (x ∷ row) = let rest = vacant-most n row in by-test (eqb x n) (�
 
 -- ---- `give`: the way is shut, the node has a distance already, or gets one and is noted now
 
+-- The way is shut.
 pub give-shut : (n d : ℕ) (may : Bool) (i : ℕ) (f : Front) → may ≡ false → f ≡ giveOf n d may i f
 unfolding giveOf
 give-shut n d may i f e = rw e
 
+-- The node has a distance already.
 pub give-again : (n d : ℕ) (may : Bool) (i : ℕ) (f : Front) → may ≡ true → (atNode (f .dist) i ≡ n → ⊥) → f ≡ giveOf n d may i f
 unfolding giveOf
 give-again n d may i f e has = rw (e, ne-eqb (atNode (f .dist) i) n has)
 
+-- The node gets one and is noted.
 pub give-new : (n d : ℕ) (may : Bool) (i : ℕ) (f : Front) → may ≡ true → atNode (f .dist) i ≡ n → given d i f ≡ giveOf n d may i f
 unfolding giveOf
 give-new n d may i f e none = rw (e, eq-eqb (atNode (f .dist) i) n none)
@@ -83,6 +86,7 @@ moved-then a b = record { long = b .long ∙ a .long; todo-long = b .todo-long �
 
 -- A node without a distance leaves room: the distance it gets is below n, and one less is without.
 module _ {n d : ℕ} {f : Front} (more : Open n d f) (i : ℕ) (node : Node (length (f .dist)) i) (none : atNode (f .dist) i ≡ n) where
+  -- It has none at its place.
   at-place : getD (f .dist) (i - 1) 0 ≡ n
   at-place = sym (node-at (f .dist) i (node .0)) ∙ none
 
@@ -90,9 +94,11 @@ module _ {n d : ℕ} {f : Front} (more : Open n d f) (i : ℕ) (node : Node (len
   pub given-place : f .count < n
   given-place = omega (arith, more .left, vacant-there n (f .dist) (i - 1) (omega (arith, node)) at-place)
 
+  -- One less is without.
   given-less : vacant n (set (f .dist) (i - 1) d) + 1 ≡ vacant n (f .dist)
   given-less = vacant-set n d (λ e. omega (arith, given-place, more .enough)) (f .dist) (i - 1) (omega (arith, node)) at-place
 
+  -- With it noted there is room as before.
   given-moved : Moved n d f (given d i f)
   given-moved =
       record {
@@ -152,6 +158,7 @@ look-turn w n d j ends l p {f} {g} long below moved first second =
       moved-then moved (subst (Moved n d g) (sym second) (give-moved (moved .more) (mayInto w j k) (otherEnd w j k) node)),
     )
 
+-- No place is looked at yet.
 pub look-none : (w : Ways) (n d j : ℕ) (l : List ℕ) (f : Front) → f ≡ lookTo w n d j l 0 f
 unfolding lookTo
 look-none w n d j l f = refl
@@ -166,8 +173,7 @@ rank f p = atNode (f .dist) (atPlace (f .todo) p)
 abbrev DoneWith : Ways → List ℕ → ℕ → Type 0
 DoneWith w row j = (k i : ℕ) → Leads w k i j → atNode row i ≤ atNode row j + 1
 
--- The distances are right so far. The nodes that have one are noted, the nearer first, and none is more than one farther than the one noted at `at`; those before
--- it are done with.
+-- The distances are right so far. The nodes that have one are noted, the nearer first, and none is more than one farther than the one noted at `at`; those before it are done with.
 pub record Going (w : Ways) (n t at : ℕ) (f : Front) : Type 0 where
   pub long : length (f .dist) ≡ n
   pub at-most : (i : ℕ) → Node n i → atNode (f .dist) i ≤ n
@@ -191,18 +197,23 @@ module _ (w : Ways) (n t : ℕ) (ends : Ends n w) (ht : Node n t) where
   -- Node i is noted, over the arc at place k to the node being visited.
   module _ (at : ℕ) (f : Front) (here : at < f .count) (g : Going w n t at f) (d : ℕ) (level : d ≡ rank f at + 1) (k i : ℕ) (lead : Leads w k i (atPlace (f .todo) at))
       (none : atNode (f .dist) i ≡ n) where
+    -- Node i is a node,
     hi : Node n i
     hi = leads-within w n k i (atPlace (f .todo) at) ends lead .0
 
+    -- and has a place in the row.
     hi-row : Node (length (f .dist)) i
     hi-row = subst (λ l. Node l i) (sym (g .long)) hi
 
+    -- There is a place to note it.
     room : f .count < n
     room = given-place (going-open here g level) i hi-row none
 
+    -- It is at distance d then,
     there : atNode (set (f .dist) (i - 1) d) i ≡ d
     there = set-there (f .dist) i d hi-row
 
+    -- and every other node where it was.
     other : (x : ℕ) → Node n x → (x ≡ i → ⊥) → atNode (set (f .dist) (i - 1) d) x ≡ atNode (f .dist) x
     other x hx ne = set-elsewhere (f .dist) i d x (hi .0) (hx .0) ne
 
@@ -210,18 +221,23 @@ module _ (w : Ways) (n t : ℕ) (ends : Ends n w) (ht : Node n t) where
     keeps : (x : ℕ) → Node n x → atNode (f .dist) x < n → atNode (set (f .dist) (i - 1) d) x ≡ atNode (f .dist) x
     keeps x hx has = other x hx (λ e. omega (arith, has, none, ap (atNode (f .dist)) e))
 
+    -- It is noted behind the others,
     noted-there : getD (set (f .todo) (f .count) i) (f .count) 0 ≡ i
     noted-there = getD-set-same (f .todo) (f .count) i 0 (omega (arith, room, g .places))
 
+    -- and those stay.
     noted-other : (p : ℕ) → p < f .count → getD (set (f .todo) (f .count) i) p 0 ≡ getD (f .todo) p 0
     noted-other p l = getD-set-other (f .todo) (f .count) p i 0 (omega arith)
 
+    -- Each node noted before is at a distance below n,
     rank-small : (p : ℕ) → p < f .count → rank f p < n
     rank-small p l = omega (arith, g .early p l, room)
 
+    -- and keeps it.
     rank-other : (p : ℕ) → p < f .count → rank (given d i f) p ≡ rank f p
     rank-other p l = ap (atNode (set (f .dist) (i - 1) d)) (noted-other p l) ∙ keeps (atPlace (f .todo) p) (g .node p l) (rank-small p l)
 
+    -- The last one noted is at distance d.
     rank-there : rank (given d i f) (f .count) ≡ d
     rank-there = ap (atNode (set (f .dist) (i - 1) d)) noted-there ∙ there
 
@@ -236,6 +252,7 @@ module _ (w : Ways) (n t : ℕ) (ends : Ends n w) (ht : Node n t) where
         (λ e. omega (arith, ap (atNode (set (f .dist) (i - 1) d)) e, there, ap (atNode (f .dist)) e, none, level, g .early at here, room))
         (λ ne. omega (arith, other x hx ne))
 
+    -- With node i noted the distances are still right so far.
     given-going : Going w n t at (given d i f)
     given-going =
         record {

@@ -24,9 +24,11 @@ use Rattle.augment.proofs.Chains.{LowestIs, lowest-is, leadsTo-leads, n
 -- ---- `far_of` and `leads`: away from the tail, away from the head, or neither
 
 module _ (tail i : ℕ) where
+  -- Away from the tail,
   pub from-tail {ℓ} : {A : Type ℓ} (a b : A) → tail ≡ i → a ≡ cond (eqb tail i) a b
   from-tail a b e = rw (eq-eqb tail i e)
 
+  -- and not.
   pub not-from-tail {ℓ} : {A : Type ℓ} (a b : A) → (tail ≡ i → ⊥) → b ≡ cond (eqb tail i) a b
   not-from-tail a b e = rw (ne-eqb tail i e)
 
@@ -34,36 +36,44 @@ module _ (tail i : ℕ) where
 pub set-from-tail : (row : List ℕ) (k tail i a b : ℕ) → tail ≡ i → set row k a ≡ set row k (cond (eqb tail i) a b)
 set-from-tail row k tail i a b e = ap (set row k) (from-tail tail i a b e)
 
+-- and the other.
 pub set-not-from-tail : (row : List ℕ) (k tail i a b : ℕ) → (tail ≡ i → ⊥) → set row k b ≡ set row k (cond (eqb tail i) a b)
 set-not-from-tail row k tail i a b e = ap (set row k) (not-from-tail tail i a b e)
 
 -- The test of `leads`, by its ways out.
 module _ (tail head i : ℕ) (fore back x y : Bool) where
+  -- From the tail, and shut.
   pub tail-shut : tail ≡ i → fore ≡ false → false ≡ leadsBy tail head i fore back x y
   unfolding leadsBy
   tail-shut e f = rw (eq-eqb tail i e, f)
 
+  -- From the tail, and open.
   pub tail-open : tail ≡ i → fore ≡ true → x ≡ leadsBy tail head i fore back x y
   unfolding leadsBy
   tail-open e f = rw (eq-eqb tail i e, f)
 
+  -- From neither end.
   pub neither-end : (tail ≡ i → ⊥) → (head ≡ i → ⊥) → false ≡ leadsBy tail head i fore back x y
   unfolding leadsBy
   neither-end e f = rw (ne-eqb tail i e, ne-eqb head i f)
 
+  -- From the head, and shut.
   pub head-shut : (tail ≡ i → ⊥) → head ≡ i → back ≡ false → false ≡ leadsBy tail head i fore back x y
   unfolding leadsBy
   head-shut e f g = rw (ne-eqb tail i e, eq-eqb head i f, g)
 
+  -- From the head, and open.
   pub head-open : (tail ≡ i → ⊥) → head ≡ i → back ≡ true → y ≡ leadsBy tail head i fore back x y
   unfolding leadsBy
   head-open e f g = rw (ne-eqb tail i e, eq-eqb head i f, g)
 
 -- The same where the end's distance is read by place.
 module _ (dist : List ℕ) (tail head i d : ℕ) (fore back : Bool) where
+  -- From the tail, and open.
   pub tail-open-at : (y : Bool) → 1 ≤ head → tail ≡ i → fore ≡ true → eqb (getD dist (head - 1) 0) d ≡ leadsBy tail head i fore back (eqb (atNode dist head) d) y
   tail-open-at y h e f = ap (λ x. eqb x d) (sym (node-at dist head h)) ∙ tail-open tail head i fore back (eqb (atNode dist head) d) y e f
 
+  -- From the head, and open.
   pub head-open-at : (x : Bool) → 1 ≤ tail → (tail ≡ i → ⊥) → head ≡ i → back ≡ true → eqb (getD dist (tail - 1) 0) d ≡ leadsBy tail head i fore back x (eqb (atNode dist tail) d)
   head-open-at x h e f g = ap (λ z. eqb z d) (sym (node-at dist tail h)) ∙ head-open tail head i fore back x (eqb (atNode dist tail) d) e f g
 
@@ -82,6 +92,7 @@ lead-test {tails = tails} {heads} {capacities} {minimums} {flow} rows dist d i k
 lowest-only : (test : ℕ → Bool) (k x y : ℕ) → LowestIs test k x → LowestIs test k y → x < y → ⊥
 lowest-only test k x y a b l = ⊎-elim (λ p. true≢false (sym (p .1) ∙ b .0 x l)) (λ e. ⊎-elim (λ p. omega (arith, p .0)) (λ q. omega arith) (b .1)) (a .1)
 
+-- So whatever is lowest is that place.
 pub lowest-unique : (test : ℕ → Bool) (k x : ℕ) → LowestIs test k x → x ≡ lowest test k
 lowest-unique test k x a =
     by-equal x (lowest test k) (λ e. e)
@@ -127,6 +138,7 @@ pub record Walked (w : Ways) (n s : ℕ) (row chain₀ chain : List ℕ) (i d p 
   pub at : atNode row i ≡ d
   pub whole : take p chain ++ chainFrom w row d i ≡ chainFrom w row (atNode row s) s
 
+-- Nothing is walked yet.
 pub walked-start : (w : Ways) (n s : ℕ) (row chain : List ℕ) → Node n s → Walked w n s row chain chain s (getD row (s - 1) 0) 0
 walked-start w n s row chain hs =
     subst (λ d. Walked w n s row chain chain s d 0) (node-at row s (hs .0))
@@ -147,6 +159,7 @@ module _ {n : ℕ} {tails heads capacities minimums flow : List ℕ} (rows : Row
   pub walked-place : {k : ℕ} → k ≡ next (rowWays tails heads capacities minimums flow) row (d - 1) i → k < length capacities
   walked-place e = subst (λ x. x < length capacities) (sym e) (walked-found .0)
 
+  -- One place more.
   pub walked-turn : atNode row s ≤ length chain₀ → {k j : ℕ} → k ≡ next (rowWays tails heads capacities minimums flow) row (d - 1) i → j ≡ cond (eqb (getD tails k 0) i) (getD heads k 0) (getD tails k 0)
       → Walked (rowWays tails heads capacities minimums flow) n s row chain₀ (set chain p k) j (d - 1) (p + 1)
   walked-turn fits {k} {j} ek ej =

@@ -1,4 +1,4 @@
--- What the code asks of the rows that it is lent.
+-- What the code asks of the rows that it is lent: for the contracts of the functions that fill chains.
 use Prim.Native.Nat.{ℕ, _≤_, _<_}
 use mathlib.Core.Path.{_≡_}
 use mathlib.Core.Bool.{Bool, cond}

@@ -119,8 +119,7 @@ fn reset(dist: &mut [u32], none: u32)
     }
 }
 
-// The distance of every node to node t over residual arcs, or their number where t is not reached. A list of nodes still to be visited is kept, the nearer
-// ones first, and each one's arcs are looked at once: O(n + m). The nodes' lists stand in the work row.
+// The distance of every node to node t over residual arcs, or their number where t is not reached. A list of nodes still to be visited is kept, the nearer ones first, and each one's arcs are looked at once: O(n + m). The nodes' lists stand in the work row.
 fn measure(
     tails: &[u32],
     heads: &[u32],
@@ -396,8 +395,7 @@ fn pour(
     fill(tails, heads, capacities, minimums, flow, chain, n, s, t, d);
 }
 
-// Fills one chain of fewest residual arcs, the first of them by its places, by its least residual; says whether there was one. The chain's row serves the
-// measuring before.
+// Fills one chain of fewest residual arcs, the first of them by its places, by its least residual; says whether there was one. The chain's row serves the measuring before.
 fn extend(
     tails: &[u32],
     heads: &[u32],
@@ -494,8 +492,7 @@ fn go_on_with(
     ) {}
 }
 
-// Goes on from the flow row along chains of fewest residual arcs, each filled by its least residual, until the sink can't be reached. The nodes' lists stand
-// in the work row.
+// Goes on from the flow row along chains of fewest residual arcs, each filled by its least residual, until the sink can't be reached. The nodes' lists stand in the work row.
 pub fn go_on(
     n: u32,
     s: u32,

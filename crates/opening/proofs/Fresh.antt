@@ -19,6 +19,7 @@ use Rattle.augment.specs.Augment.{settled, GoesOn}
 use Rattle.augment.proofs.Settling.{settled-answer, settled-goes-on, settled-long, answer-value, answer-side}
 
 module _ (t : Table) (ok : Accepted t) (flow : List ℕ) (long : arcs t ≤ length flow) (valid : Flow (networkOf t) (atPlace flow)) where
+  -- The network is sound.
   sound : Sound (networkOf t)
   sound = accepted-sound t ok
 

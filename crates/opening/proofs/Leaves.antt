@@ -33,18 +33,22 @@ abbrev pub WithinTo : (capacities flow : List ℕ) → ℕ → Type 0
 WithinTo capacities flow k = allBelow (λ p. leb (atPlace flow p) (atPlace capacities p)) k ≡ true
 
 module _ (capacities flow : List ℕ) where
+  -- No place is looked at yet.
   pub within-none : WithinTo capacities flow 0
   unfolding allBelow
   within-none = refl
 
+  -- One place more.
   pub within-more : (k : ℕ) → WithinTo capacities flow k → atPlace flow k ≤ atPlace capacities k → WithinTo capacities flow (k + 1)
   within-more k before l = all-more (λ p. leb (atPlace flow p) (atPlace capacities p)) k before (le-leb (atPlace flow k) (atPlace capacities k) l)
 
+  -- A flow above its capacity.
   pub within-broken : (k : ℕ) → k < length capacities → atPlace capacities k < atPlace flow k → false ≡ isWithin capacities flow
   unfolding isWithin
   within-broken k l above =
       sym (all-broken (λ p. leb (atPlace flow p) (atPlace capacities p)) (length capacities) k l (lt-leb (atPlace flow k) (atPlace capacities k) above))
 
+  -- All places.
   pub within-all : (k : ℕ) → k ≡ length capacities → WithinTo capacities flow k → true ≡ isWithin capacities flow
   unfolding isWithin
   within-all k all so = sym so ∙ ap (allBelow (λ p. leb (atPlace flow p) (atPlace capacities p))) all
@@ -52,12 +56,15 @@ module _ (capacities flow : List ℕ) where
 -- ---- `does_keep`
 
 module _ (s t i entering leaving : ℕ) where
+  -- The source.
   pub keeps-source : i ≡ s → true ≡ keeps s t i entering leaving
   keeps-source e = rw (eq-eqb i s e)
 
+  -- The sink.
   pub keeps-sink : (i ≡ s → ⊥) → i ≡ t → true ≡ keeps s t i entering leaving
   keeps-sink other e = rw (ne-eqb i s other, eq-eqb i t e)
 
+  -- An inner node.
   pub keeps-inner : (i ≡ s → ⊥) → (i ≡ t → ⊥) → eqb entering leaving ≡ keeps s t i entering leaving
   keeps-inner other too = rw (ne-eqb i s other, ne-eqb i t too)
 
@@ -72,21 +79,26 @@ module _ (s t : ℕ) (entering leaving : List ℕ) where
   abbrev pub KeptTo : ℕ → Type 0
   KeptTo k = allBelow stays k ≡ true
 
+  -- No node is looked at yet.
   pub kept-none : KeptTo 0
   unfolding allBelow
   kept-none = refl
 
   module _ (k : ℕ) {r : Bool} (is : r ≡ keeps s t (k + 1) (getD entering k 0) (getD leaving k 0)) where
+    -- The test of the node behind place k.
     here : r ≡ stays k
     here = is ∙ ap (λ i. keeps s t i (getD entering k 0) (getD leaving k 0)) (add-one k)
 
+    -- One node more.
     pub kept-more : KeptTo k → r ≡ true → KeptTo (k + 1)
     kept-more before e = all-more stays k before (sym here ∙ e)
 
+    -- A node that does not keep what enters it.
     pub kept-broken : k < length entering → r ≡ false → false ≡ isKept s t (atNode entering) (atNode leaving) (length entering)
     unfolding isKept
     kept-broken l e = sym (all-broken stays (length entering) k l (sym here ∙ e))
 
+  -- All nodes.
   pub kept-all : (k : ℕ) → k ≡ length entering → KeptTo k → true ≡ isKept s t (atNode entering) (atNode leaving) (length entering)
   unfolding isKept
   kept-all k all so = sym so ∙ ap (allBelow stays) all
@@ -100,6 +112,7 @@ zero-at (suc n) zero k = refl
 zero-at (suc n) (suc m) zero = refl
 zero-at (suc n) (suc m) (suc k) = zero-at n m k
 
+-- Nothing is added up in a row of zeros.
 pub tallied-none : (ends flow : List ℕ) (n m : ℕ) → Tallied ends flow 0 (take n (replicate m 0))
 unfolding sum
 tallied-none ends flow n m = record { exact = λ i v. at i; small = λ i v. omega (arith, at i) }
@@ -192,11 +205,13 @@ module _ (t : Table) (flow : List ℕ) {r : Bool} (is : r ≡ isWithin (t .capac
 abbrev pub zeros : ℕ → List ℕ
 zeros n = take n (replicate 512 0)
 
+-- It has n numbers.
 pub zeros-long : (n : ℕ) → n ≤ 512 → length (zeros n) ≡ n
 zeros-long n few = length-take-le n (replicate 512 0) few
 
 -- What `is_conserved` asks, with rows of zeros for the sums.
 module _ {n : ℕ} {tails heads capacities flow : List ℕ} (rows : ArcRows n tails heads capacities) (room : length capacities ≤ length flow) where
+  -- All of it holds.
   pub conserved-asks :
       (((length tails ≤ length flow) × (length tails ≤ 4096)) × ((length heads ≤ length flow) × (length heads ≤ 4096)))
       × (((k : ℕ) → k < length tails → Node (length (zeros n)) (atPlace tails k))

@@ -13,6 +13,7 @@ use Rattle.table.specs.Checks.{isFine, orElse}
 use Rattle.table.specs.declared.Name.{Name}
 use Rattle.table.specs.declared.Verdict.{Verdict}
 use Rattle.table.specs.declared.Verdict.the-variants.{Fine, Refused}
+use Rattle.table.specs.Refusals.{refusalIn}
 use Rattle.table.proofs.Numbers.{number-positive}
 use Rattle.reach.specs.Side.{sideOf}
 use Rattle.reach.proofs.Side.{length-of-side}
@@ -27,7 +28,7 @@ use Rattle.opening.specs.Steps.{Opens}
 use Rattle.opening.proofs.Opened.{flow-agree, as-many, opened-accepted, opened-flow}
 use Rattle.opening.proofs.Fresh.{last-best, last-chains, last-long, fresh-value, fresh-side}
 use Rattle.opening.proofs.Going.{went-longer}
-use Rattle.opening.proofs.Verdicts.{rank, change-opens, fine-opens, notmax-not}
+use Rattle.opening.proofs.Verdicts.{change-opens, fine-opens, notmax-not}
 
 -- ---- the new table and the flow in it
 
@@ -44,11 +45,13 @@ module _ {t : Table} {place new : ℕ} {flow : List ℕ} {side work : ℕ} (open
   pub new-flow : Flow (networkOf (opened t place new)) (atPlace flow)
   new-flow = opened-flow t place new (opens .below) (opens .more) (atPlace flow) (opens .was)
 
+  -- and so is their part of the row,
   pub new-part : Flow (networkOf (opened t place new)) (atPlace (take (arcs (opened t place new)) flow))
   new-part =
       flow-agree (networkOf (opened t place new)) (atPlace flow) (atPlace (take (arcs (opened t place new)) flow))
       (λ k l. sym (getD-take (arcs (opened t place new)) flow k 0 l)) new-flow
 
+  -- which has a number for each arc.
   pub part-long : length (take (arcs (opened t place new)) flow) ≡ arcs (opened t place new)
   part-long = length-take-le (arcs (opened t place new)) flow (omega (arith, new-many, opens .for-flow))
 
@@ -220,5 +223,5 @@ module _ (t : Table) (stamp place new : ℕ) (flow side work : List ℕ) (l : Le
           omega (arith, went-fine (opened t place new) stamp flow side work, zero, refused)
       go (Refused name at) e most =
           notmax-not t place new flow (length side) (length work)
-          (ap rank (sym e) ∙ ap (λ (x : Left). x .answer .refusal) (refused-opening t stamp place new flow side work (Refused name at) e name at refl ∙ sym same) ∙ refused)
+          (ap refusalIn (sym e) ∙ ap (λ (x : Left). x .answer .refusal) (refused-opening t stamp place new flow side work (Refused name at) e name at refl ∙ sym same) ∙ refused)
           most

@@ -69,6 +69,7 @@ module _ (t : Table) (flow : List ℕ) where
   abbrev fits : ℕ → Bool
   fits k = leb (atPlace flow k) (capacity t k)
 
+  -- The test of the node behind a place.
   abbrev stays : ℕ → Bool
   stays k = keeps (t .source) (t .sink) (suc k) (inflow (networkOf t) (atPlace flow) (suc k)) (outflow (networkOf t) (atPlace flow) (suc k))
 
@@ -102,6 +103,7 @@ module _ (t : Table) (flow : List ℕ) where
       )
 
   module _ (ok : Accepted t) where
+    -- The network is sound.
     sound : Sound (networkOf t)
     sound = accepted-sound t ok
 

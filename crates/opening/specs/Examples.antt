@@ -56,14 +56,17 @@ p3-refuses : (place capacity : ℕ) (flow : List ℕ) → Name → ℕ → Type 
 p3-refuses place capacity flow name at =
     opening p3 6 place capacity flow (7 ∷ 7 ∷ 7 ∷ []) (works 1) ≡ left (refusal name at) flow (7 ∷ 7 ∷ 7 ∷ []) (works 1)
 
+-- Place 2 of two arcs.
 p3-place : p3-refuses 2 9 (3 ∷ 3 ∷ []) Place 2
 unfolding p3-refuses opening p3 works hasRoom sizesOf outside differ badEnds inOrder orElse firstFault arcFault
 p3-place = refl
 
+-- 2 for 3.
 p3-lower : p3-refuses 1 2 (3 ∷ 3 ∷ []) Lower 0
 unfolding p3-refuses opening p3 works hasRoom sizesOf outside differ badEnds inOrder orElse firstFault arcFault
 p3-lower = refl
 
+-- A flow of 2 where 3 fit.
 p3-not-largest : p3-refuses 1 4 (2 ∷ 2 ∷ []) NotMax 0
 unfolding p3-refuses opening p3 works hasRoom sizesOf outside differ badEnds inOrder orElse firstFault arcFault sideFrom inflow outflow sum
 p3-not-largest = refl

@@ -47,8 +47,7 @@ openingVerdict t place capacity flow side work =
 abbrev pub openedAnswer : (stamp value : ℕ) → Answer
 openedAnswer stamp value = answerWith (raised stamp) value 0 0 noSteps
 
--- A table with a flow of it: chains are filled until the sink can't be reached. The flow row holds the m flows at the end, the side row their n marks, later
--- places of both as they were; the work row is cleared.
+-- A table with a flow of it: chains are filled until the sink can't be reached. The flow row holds the m flows at the end, the side row their n marks, later places of both as they were; the work row is cleared.
 unfoldable pub wentOn : Table → (stamp : ℕ) → (flow side work : List ℕ) → Left
 unfolding settled
 wentOn t stamp flow side work =
@@ -70,8 +69,7 @@ unfolding openingVerdict openingAs
 opening t stamp place capacity flow side work =
     openingAs (openingVerdict t place capacity flow (length side) (length work)) (opened t place capacity) stamp flow side work
 
--- What an opening that refuses nothing gives: the row was a maximum flow of the old table; document 02's chains lead from it to the new flow;
--- value and side are those of solving the new table afresh, and the best.
+-- What an opening that refuses nothing gives: the row was a maximum flow of the old table; document 02's chains lead from it to the new flow; value and side are those of solving the new table afresh, and the best.
 pub record Reopens (t new : Table) (flow : List ℕ) (l : Left) : Type 0 where
   pub was : MaximumFlow t flow
   pub chains : GoesOn (networkOf new) (take (arcs new) flow) (take (arcs new) (l .flow))

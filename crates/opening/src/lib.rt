@@ -448,8 +448,7 @@ fn open_accepted(
     )
 }
 
-// Opens the arc at a place of the old table to a new capacity: goes on from the table's maximum flow along chains of fewest residual arcs, the first of them
-// by their places, each filled by its least residual, until the sink can't be reached; or gives the first refusal, with nothing written.
+// Opens the arc at a place of the old table to a new capacity: goes on from the table's maximum flow along chains of fewest residual arcs, the first of them by their places, each filled by its least residual, until the sink can't be reached; or gives the first refusal, with nothing written.
 pub fn open(
     n: u32,
     s: u32,

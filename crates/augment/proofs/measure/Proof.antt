@@ -1,5 +1,4 @@
--- `measure` meets its contract. The loop's invariant: the nodes that have a distance are noted, and those before `at` are done with. The measure is what is left of the
--- nodes.
+-- `measure` meets its contract. The loop's invariant: the nodes that have a distance are noted, and those before `at` are done with. The measure is what is left of the nodes.
 use Prim.Native.Nat.{_+_, _-_, _<_}
 use mathlib.Core.Path.{_≡_, refl, sym, ap, _∙_, subst⁻¹}
 use native.Mathlib.Omega.{arith}
