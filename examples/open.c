@@ -20,7 +20,7 @@ static void read_chair(uint32_t stamp, uint32_t answer) {
     struct jorrabide_reading r = jorrabide_read_place(
         NODES, 1, NODES, stamp, tails, ARCS, heads, ARCS, capacities, ARCS, answer, flow, ARCS, side, NODES, CHAIR);
     if (r.refusal != 0)
-        printf("refusal %u (9 is STALE)\n", r.refusal);
+        printf("refusal %u at %u (9 is STALE, by so many rebuilds)\n", r.refusal, r.place);
     else
         printf("place %u takes %u of %u%s\n", CHAIR, r.flow, r.capacity, r.crossing ? " and is in the way" : "");
 }

@@ -37,17 +37,6 @@ struct jorrabide_text jorrabide_read_text(
     uint32_t *heads, size_t heads_length, uint32_t *capacities, size_t capacities_length);
 size_t jorrabide_serve(const uint8_t *text, size_t text_length, uint8_t *out, size_t out_length);
 
-/* Opening a place, as the header has it. */
-struct jorrabide_answer jorrabide_open(
-    uint32_t n, uint32_t s, uint32_t t, uint32_t stamp,
-    const uint32_t *tails, size_t tails_length,
-    const uint32_t *heads, size_t heads_length,
-    const uint32_t *capacities, size_t capacities_length,
-    uint32_t place, uint32_t capacity,
-    uint32_t *flow, size_t flow_length,
-    uint8_t *side, size_t side_length,
-    uint32_t *work, size_t work_length);
-
 struct row {
     unsigned char *memory;
     size_t bytes;
