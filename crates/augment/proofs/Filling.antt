@@ -95,7 +95,7 @@ with-one N flow least i (k ∷ ks) =
     (λ (p, l, e). inr (suc p, omega arith, e))
     (with-one N flow (min least (residualFrom N flow i k)) (farFrom N i k) ks)
 
--- So the least residual is at most each of the chain's residuals, and one of them.
+-- So the least residual is at most each of the chain's residuals,
 pub least-at-most-each : (N : Network) (flow : List ℕ) (i : ℕ) (ks : List ℕ) (p : ℕ) → p < length ks → leastResidual N flow i ks ≤ getD (residualsOf N flow i ks) p 0
 unfolding leastResidual
 least-at-most-each N flow i [] p l = absurd (omega arith)
