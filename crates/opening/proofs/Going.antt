@@ -19,7 +19,8 @@ use Rattle.solver.proofs.Solved.{same-left}
 use Rattle.augment.specs.Augment.{boundNetwork, settled}
 use Rattle.augment.specs.Rows.{Ready}
 use Rattle.augment.proofs.Instances.{no-minimums, rows-wide}
-use Rattle.opening.specs.Opening.{raised, openedAnswer, wentOn}
+use Rattle.stamps.specs.Stamp.{raised}
+use Rattle.opening.specs.Opening.{openedAnswer, wentOn}
 use Rattle.opening.proofs.Fresh.{last-best, last-long}
 
 -- The answer with the raised stamp.

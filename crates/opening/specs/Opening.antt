@@ -1,5 +1,5 @@
 -- Document 02, CR 12: a chair opens. The old table, its flow, a place and a new capacity give the new answer.
-use Prim.Native.Nat.{ℕ, _+_, _%_, _^_}
+use Prim.Native.Nat.{ℕ}
 use mathlib.Core.Path.{_≡_}
 use mathlib.Core.Bool.{not}
 use mathlib.Core.List.{List, _++_}
@@ -15,6 +15,7 @@ use Rattle.reach.specs.Side.{sideOf}
 use Rattle.run.specs.Phase.{run, value, noSteps}
 use Rattle.run.specs.Demands.{Best}
 use Rattle.arcs.specs.Work.{workNeed}
+use Rattle.stamps.specs.Stamp.{raised}
 use Rattle.solver.specs.declared.Answer.{Answer}
 use Rattle.solver.specs.Solving.{Left, left, refusal, answerWith, solvingVerdict}
 use Rattle.augment.specs.Augment.{settled, GoesOn}
@@ -23,10 +24,6 @@ use Rattle.opening.specs.Maximum.{MaximumFlow, isMaximum}
 -- The new table: the old one with the new capacity at the place.
 abbrev pub opened : Table → (place capacity : ℕ) → Table
 opened t place capacity = tableOf (t .nodes) (t .source) (t .sink) (t .tails) (t .heads) (set (t .capacities) place capacity)
-
--- The stamp is raised by one, round 2^32.
-abbrev pub raised : ℕ → ℕ
-raised stamp = (stamp + 1) % 2 ^ 32
 
 -- PLACE, m or above; CAPACITY, a new number above the limit; LOWER, one below the old; NOTMAX, where the row is not a maximum flow of the old table.
 unfoldable pub changeVerdict : Table → (place capacity : ℕ) → (flow : List ℕ) → Verdict
