@@ -10,7 +10,7 @@
 extern "C" {
 #endif
 
-/* What solving returns: a refusal's number and place and 0 elsewhere, or refusal 0 and the results. */
+/* What solving and opening return: a refusal's number and place and 0 elsewhere, or refusal 0 and the results. */
 struct jorrabide_answer {
     uint32_t refusal;
     uint32_t place;
@@ -54,6 +54,19 @@ struct jorrabide_reading jorrabide_read_place(
     const uint32_t *flow, size_t flow_length,
     const uint8_t *side, size_t side_length,
     uint32_t place);
+
+/* Opens the arc at a place of the table to a new capacity, not below the old: goes on from the flow row, which must hold a maximum flow
+   of the table, and fills flow and side row as for the new table. The stamp comes back raised by one, with 0 for the scale, the phases and the
+   counts. The capacities are not written: put the new one in its place yourself, and give the table the new stamp. Rows as for solving. */
+struct jorrabide_answer jorrabide_open(
+    uint32_t n, uint32_t s, uint32_t t, uint32_t stamp,
+    const uint32_t *tails, size_t tails_length,
+    const uint32_t *heads, size_t heads_length,
+    const uint32_t *capacities, size_t capacities_length,
+    uint32_t place, uint32_t capacity,
+    uint32_t *flow, size_t flow_length,
+    uint8_t *side, size_t side_length,
+    uint32_t *work, size_t work_length);
 
 #ifdef __cplusplus
 }

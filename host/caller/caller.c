@@ -1,11 +1,11 @@
 /* The caller: takes calls from standard input, makes them through the static libraries, and writes on standard output
    what came back and every lent row. Numbers are 32 bits and little-endian; marks, texts and what is served are bytes.
 
-   A call: kind (1 solve, 2 solve arc records, 3 read by place, 4 read a text, 5 serve a text), n, s, t, the table's
-   stamp, the answer's stamp, the place, the lengths of the eight rows (tails, heads, capacities, flow, side, work,
-   text, out), then the rows. Numbers that a call doesn't have are 0, rows that it doesn't have are empty. For arc
-   records the first three rows have one length; the records are made of them here, and the rows of the records
-   afterwards.
+   A call: kind (1 solve, 2 solve arc records, 3 read by place, 4 read a text, 5 serve a text, 6 open a place), n, s, t,
+   the table's stamp, the answer's stamp, the place, its new capacity, the lengths of the eight rows (tails, heads,
+   capacities, flow, side, work, text, out), then the rows. Numbers that a call doesn't have are 0, rows that it doesn't
+   have are empty. For arc records the first three rows have one length; the records are made of them here, and the rows
+   of the records afterwards.
    What is written: nine 64-bit numbers (the answer's nine, the reading's five, the text's six or where the served bytes
    end, then 0), then the eight rows, then 1 if nothing was written beside them. */
 #include <stdint.h>
@@ -15,9 +15,9 @@
 
 #include "jorrabide.h"
 
-enum { SOLVE = 1, SOLVE_RECORDS, READ_PLACE, READ_TEXT, SERVE };
+enum { SOLVE = 1, SOLVE_RECORDS, READ_PLACE, READ_TEXT, SERVE, OPEN };
 enum { TAILS, HEADS, CAPACITIES, FLOW, SIDE, WORK, TEXT, OUT, ROWS };
-enum { KIND, NODES, SOURCE, SINK, STAMP, ANSWER_STAMP, PLACE, LENGTHS, HEADER = LENGTHS + ROWS };
+enum { KIND, NODES, SOURCE, SINK, STAMP, ANSWER_STAMP, PLACE, CAPACITY, LENGTHS, HEADER = LENGTHS + ROWS };
 enum { FENCE = 64, FENCE_BYTE = 0xA5 };
 
 /* An arc record, and the entry over a row of them, which is in no header: it is not one of the calls for C. */
@@ -161,6 +161,17 @@ static void call_serve(const struct row *rows, uint64_t *result) {
     result[0] = jorrabide_serve(bytes(rows[TEXT]), rows[TEXT].length, bytes(rows[OUT]), rows[OUT].length);
 }
 
+/* Makes the call of opening a place. */
+static void call_open(const uint32_t *call, const struct row *rows, uint64_t *result) {
+    put_answer(jorrabide_open(
+                   call[NODES], call[SOURCE], call[SINK], call[STAMP],
+                   numbers(rows[TAILS]), rows[TAILS].length, numbers(rows[HEADS]), rows[HEADS].length,
+                   numbers(rows[CAPACITIES]), rows[CAPACITIES].length, call[PLACE], call[CAPACITY],
+                   numbers(rows[FLOW]), rows[FLOW].length, bytes(rows[SIDE]), rows[SIDE].length,
+                   numbers(rows[WORK]), rows[WORK].length),
+               result);
+}
+
 int main(void) {
     uint32_t call[HEADER];
     while (read_all(call, sizeof call)) {
@@ -173,6 +184,7 @@ int main(void) {
             case READ_PLACE: call_read_place(call, rows, result); break;
             case READ_TEXT: call_read_text(rows, result); break;
             case SERVE: call_serve(rows, result); break;
+            case OPEN: call_open(call, rows, result); break;
             default: return 1;
         }
         write_all(result, sizeof result);

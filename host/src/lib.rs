@@ -5,6 +5,7 @@ pub mod boundaries;
 pub mod compare;
 pub mod desk;
 pub mod families;
+pub mod opening;
 pub mod reading;
 pub mod refusal;
 pub mod run;

@@ -2,7 +2,9 @@
 
 use judge::boundaries;
 use judge::compare::texts::random_text;
-use judge::compare::{compare_calls, compare_texts, wanted_of_texts, Calls, Comparison, Seen, CALLS, ENOUGH, READINGS};
+use judge::compare::{
+    compare_calls, compare_texts, wanted_of_texts, Calls, Comparison, Seen, CALLS, ENOUGH, OPENINGS, READINGS,
+};
 use judge::desk::desk;
 use judge::families::{lines, FAMILIES};
 use std::io::{self, Read, Write};
@@ -19,7 +21,9 @@ const USAGE: &str = "usage:
   judge texts COUNT SEED COMMAND WORD..   random texts through a desk
   judge calls COUNT SEED COMMAND WORD..   random calls of solving and reading by place through a caller
   judge readings COUNT SEED COMMAND WORD..
-                                          random readings of text, and served texts, through a caller";
+                                          random readings of text, and served texts, through a caller
+  judge openings COUNT SEED COMMAND WORD..
+                                          random openings of a place through a caller";
 
 /// Writes what the desk program prints for standard input.
 fn answer_input() -> io::Result<bool> {
@@ -139,6 +143,9 @@ fn run(arguments: &[&str]) -> io::Result<bool> {
         }
         ["readings", count, seed, command @ ..] if !command.is_empty() => {
             told_of_calls(&READINGS, comparison(count, seed, command)?)
+        }
+        ["openings", count, seed, command @ ..] if !command.is_empty() => {
+            told_of_calls(&OPENINGS, comparison(count, seed, command)?)
         }
         _ => Err(io::Error::other(USAGE)),
     }

@@ -18,6 +18,8 @@ pub enum Name {
     Line,
     Count,
     Long,
+    Lower,
+    NotMax,
 }
 
 impl Name {
@@ -39,6 +41,8 @@ impl Name {
             Name::Line => 13,
             Name::Count => 14,
             Name::Long => 15,
+            Name::Lower => 22,
+            Name::NotMax => 23,
         }
     }
 
@@ -60,6 +64,8 @@ impl Name {
             Name::Line => "LINE",
             Name::Count => "COUNT",
             Name::Long => "LONG",
+            Name::Lower => "LOWER",
+            Name::NotMax => "NOTMAX",
         }
     }
 

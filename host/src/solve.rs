@@ -24,12 +24,12 @@ pub fn work_need(table: &Table) -> u64 {
 }
 
 /// Whether the flow, side and work rows are as long as document 01 says.
-fn has_room(table: &Table, flow: &[u32], side: &[u8], work: &[u32]) -> bool {
+pub fn has_room(table: &Table, flow: &[u32], side: &[u8], work: &[u32]) -> bool {
     flow.len() >= table.arcs() && side.len() as u64 >= u64::from(table.n) && work.len() as u64 >= work_need(table)
 }
 
 /// The value, the net flow out of s.
-fn value(table: &Table, flow: &[u32]) -> u64 {
+pub fn value(table: &Table, flow: &[u32]) -> u64 {
     let mut out_of_source = 0;
     let mut into_source = 0;
     for (place, amount) in flow.iter().enumerate() {
@@ -70,14 +70,16 @@ pub fn try_solve(
     })
 }
 
+/// The answer itself, or that of a refusal: its number and place, and all other fields 0.
+pub fn answered(tried: Result<Answer, Refusal>) -> Answer {
+    tried.unwrap_or_else(|refusal| Answer {
+        refusal: refusal.name.number(),
+        place: refusal.place,
+        ..Answer::default()
+    })
+}
+
 /// Solves a table into the lent rows and answers a refusal by its number and place.
 pub fn solve(table: &Table, stamp: u32, flow: &mut [u32], side: &mut [u8], work: &mut [u32]) -> Answer {
-    match try_solve(table, stamp, flow, side, work) {
-        Ok(answer) => answer,
-        Err(refusal) => Answer {
-            refusal: refusal.name.number(),
-            place: refusal.place,
-            ..Answer::default()
-        },
-    }
+    answered(try_solve(table, stamp, flow, side, work))
 }

@@ -159,7 +159,8 @@ fn names_have_their_numbers_and_words() {
         (Name::Count, "COUNT"),
         (Name::Long, "LONG"),
     ];
-    for (number, (name, word)) in (1..).zip(names) {
+    let later = [(22, (Name::Lower, "LOWER")), (23, (Name::NotMax, "NOTMAX"))];
+    for (number, (name, word)) in (1..).zip(names).chain(later) {
         assert_eq!(name.number(), number);
         assert_eq!(name.word(), word);
     }

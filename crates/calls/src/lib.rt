@@ -1,8 +1,10 @@
-// The front door's calls for a program in C or Rust to link, as the host's comparisons do: the planner's own, under names of their own.
+// The front door's calls for a program in C or Rust to link, as the host's comparisons do: the crates' own, under names of their own.
 ghost use mathlib.Core.Path.{_≡_};
 ghost use Rattle.table.specs.Table.{tableOf};
 ghost use Rattle.solver.specs.Solving.{left, solving, Meets};
 ghost use Rattle.planner.specs.Reading.{reading};
+ghost use Rattle.opening.specs.Maximum.{MaximumFlow};
+ghost use Rattle.opening.specs.Opening.{opened, opening, Reopens};
 use planner::Reading;
 use solver::Answer;
 
@@ -55,5 +57,41 @@ pub extern "C" fn jorrabide_read_place(
         flow,
         side,
         place,
+    )
+}
+
+// `opening::open`.
+#[no_mangle]
+pub extern "C" fn jorrabide_open(
+    n: u32,
+    s: u32,
+    t: u32,
+    stamp: u32,
+    tails: &[u32],
+    heads: &[u32],
+    capacities: &[u32],
+    place: u32,
+    capacity: u32,
+    flow: &mut [u32],
+    side: &mut [u8],
+    work: &mut [u32],
+) -> Answer
+    ensures exact { λ r. ⌜ left r (now (flow .exit)) (now (side .exit)) (now (work .exit)) ≡ opening (tableOf n s t (now (tails .entry)) (now (heads .entry)) (now (capacities .entry))) stamp place capacity (now (flow .entry)) (now (side .entry)) (now (work .entry)) ⌝ }
+    ensures best { λ r. ⌜ (r .refusal ≡ 0 → Reopens (tableOf n s t (now (tails .entry)) (now (heads .entry)) (now (capacities .entry))) (opened (tableOf n s t (now (tails .entry)) (now (heads .entry)) (now (capacities .entry))) place capacity) (now (flow .entry)) (left r (now (flow .exit)) (now (side .exit)) (now (work .exit)))) ⌝ }
+    ensures notmax { λ r. ⌜ (r .refusal ≡ 23 → MaximumFlow (tableOf n s t (now (tails .entry)) (now (heads .entry)) (now (capacities .entry))) (now (flow .entry)) → ⊥) ⌝ }
+{
+    opening::open(
+        n,
+        s,
+        t,
+        stamp,
+        tails,
+        heads,
+        capacities,
+        place,
+        capacity,
+        flow,
+        side,
+        work,
     )
 }

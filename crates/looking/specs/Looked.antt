@@ -1,4 +1,4 @@
--- How far each node's list was looked through since its last relabel (document 02, CR 9), and what has to hold for that to leave every step as it is.
+-- How far each node's list was looked through since its last relabel (document 02, CR 9), and what has to hold for that to leave every step as it is. For the contracts of the run's parts.
 use Prim.Native.Nat.{ℕ, _+_, _≤_, _<_}
 use mathlib.Core.Path.{_≡_}
 use mathlib.Core.Bool.{true, false}

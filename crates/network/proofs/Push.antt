@@ -25,7 +25,7 @@ keyed-change m key flow k w v l =
     ∙ ap (λ x. sum m (λ a. only (eqb (key a) v) (flow a)) + only (eqb (key k) v) x) (put-same flow k w k refl)
 
 -- A push of d moves d of inflow less outflow from its start to its finish, at every node v.
-push-balance : (N : Network) (flow : ℕ → ℕ) (k : ℕ) (b : Bool) (d : ℕ) → k < N .m → d ≤ residualOver N flow k b → (v : ℕ)
+pub push-balance : (N : Network) (flow : ℕ → ℕ) (k : ℕ) (b : Bool) (d : ℕ) → k < N .m → d ≤ residualOver N flow k b → (v : ℕ)
     → inflow N (put flow k (moved b (flow k) d)) v + outflow N flow v + only (eqb (nearEnd N k b) v) d
     ≡ inflow N flow v + outflow N (put flow k (moved b (flow k) d)) v + only (eqb (farEnd N k b) v) d
 unfolding inflow outflow
@@ -50,7 +50,7 @@ push-balance N flow k false d l fits v =
     split i = ap (only (eqb i v)) (omega arith) ∙ only-plus (eqb i v) (flow k - d) d
 
 -- A push of at most the residual keeps minimum and capacity.
-moved-range : (N : Network) (flow : ℕ → ℕ) (k : ℕ) (b : Bool) (d : ℕ) → d ≤ residualOver N flow k b → N .low k ≤ flow k → flow k ≤ N .capacity k
+pub moved-range : (N : Network) (flow : ℕ → ℕ) (k : ℕ) (b : Bool) (d : ℕ) → d ≤ residualOver N flow k b → N .low k ≤ flow k → flow k ≤ N .capacity k
     → (N .low k ≤ moved b (flow k) d) × (moved b (flow k) d ≤ N .capacity k)
 moved-range N flow k true d fits low high = omega arith
 moved-range N flow k false d fits low high = omega arith

@@ -4,7 +4,7 @@ use mathlib.Core.Path.{sym}
 use mathlib.Core.Bool.{Bool, true, false}
 use mathlib.Core.List.{List}
 use Rattle.rows.specs.Row.{atPlace}
-use Rattle.network.specs.Network.{Network, Reach, source, along, Leads, arrived, onward, Leading, nearEnd, farEnd, residualOver}
+use Rattle.network.specs.Network.{Network, Reach, source, along, ToSink, arrived, onward, SinkReached, nearEnd, farEnd, residualOver}
 use Rattle.network.proofs.Notions.{Sound}
 use Rattle.table.specs.Table.{Table, networkOf}
 use Rattle.reach.specs.Side.{marked, turned, sinkSideOf}
@@ -38,7 +38,7 @@ reversed-sound N sound =
 
 module _ (N : Network) (flow : ℕ → ℕ) where
   -- One arc of it is one of the network's, taken the other way round,
-  back-on : (k : ℕ) (b : Bool) → k < N .m → 0 < residualOver (reversed N) flow k b → Leads N flow (nearEnd (reversed N) k b) → Leads N flow (farEnd (reversed N) k b)
+  back-on : (k : ℕ) (b : Bool) → k < N .m → 0 < residualOver (reversed N) flow k b → ToSink N flow (nearEnd (reversed N) k b) → ToSink N flow (farEnd (reversed N) k b)
   back-on k true l r way = onward k true l r way
   back-on k false l r way = onward k false l r way
 
@@ -48,24 +48,24 @@ module _ (N : Network) (flow : ℕ → ℕ) where
   on-back k false l r way = along k false l r way
 
   -- What the sink reaches there reaches it here,
-  reach-leads : {i : ℕ} → Reach (reversed N) flow i → Leads N flow i
-  reach-leads source = arrived
-  reach-leads (along k b l r way) = back-on k b l r (reach-leads way)
+  reach-to-sink : {i : ℕ} → Reach (reversed N) flow i → ToSink N flow i
+  reach-to-sink source = arrived
+  reach-to-sink (along k b l r way) = back-on k b l r (reach-to-sink way)
 
   -- and the other way round.
-  leads-reach : {i : ℕ} → Leads N flow i → Reach (reversed N) flow i
-  leads-reach arrived = source
-  leads-reach (onward k b l r way) = on-back k b l r (leads-reach way)
+  to-sink-reach : {i : ℕ} → ToSink N flow i → Reach (reversed N) flow i
+  to-sink-reach arrived = source
+  to-sink-reach (onward k b l r way) = on-back k b l r (to-sink-reach way)
 
 -- A table with every arc the other way round is sound where the table is.
 pub turned-sound : (t : Table) → Sound (networkOf t) → Sound (networkOf (turned t))
 turned-sound t sound = reversed-sound (networkOf t) sound
 
 -- The other side marks exactly the nodes that reach the sink.
-pub sink-side-leading : (t : Table) → Sound (networkOf t) → (flow : List ℕ) → Leading (networkOf t) (atPlace flow) (marked (sinkSideOf t flow))
-sink-side-leading t sound flow =
+pub sink-side-reached : (t : Table) → Sound (networkOf t) → (flow : List ℕ) → SinkReached (networkOf t) (atPlace flow) (marked (sinkSideOf t flow))
+sink-side-reached t sound flow =
     let exact = side-reached (reversed (networkOf t)) (atPlace flow) (reversed-sound (networkOf t) sound) in
     record {
-      into = λ i way. exact .into i (leads-reach (networkOf t) (atPlace flow) way);
-      from = λ i e. reach-leads (networkOf t) (atPlace flow) (exact .from i e);
+      into = λ i way. exact .into i (to-sink-reach (networkOf t) (atPlace flow) way);
+      from = λ i e. reach-to-sink (networkOf t) (atPlace flow) (exact .from i e);
     }

@@ -59,7 +59,7 @@ source-sums t ok flow same =
 -- ---- the answer of its parts
 
 -- Equal parts make equal answers and rows.
-same-left : {a b : Answer} {f g s u w x : List ℕ} → a ≡ b → f ≡ g → s ≡ u → w ≡ x → left a f s w ≡ left b g u x
+pub same-left : {a b : Answer} {f g s u w x : List ℕ} → a ≡ b → f ≡ g → s ≡ u → w ≡ x → left a f s w ≡ left b g u x
 same-left p q e d = rw (p, q, e, d)
 
 -- The run's results, its value and its side are what is left while the lists stand.

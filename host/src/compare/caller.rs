@@ -1,8 +1,9 @@
 //! Calls as the caller takes them, and what must come back from each.
 use super::tables::OwnTable;
 use crate::desk::serve;
+use crate::opening::{open, Opening};
 use crate::reading::read_place;
-use crate::solve::solve;
+use crate::solve::{solve, Answer};
 use crate::text;
 
 /// Which call is made.
@@ -13,6 +14,7 @@ pub enum Kind {
     ReadPlace,
     ReadText,
     Serve,
+    Open,
 }
 
 /// A call: its numbers and all rows that are lent to it. Numbers that it doesn't have are 0, rows that it doesn't have
@@ -24,6 +26,7 @@ pub struct Call {
     pub stamp: u32,
     pub answer_stamp: u32,
     pub place: u32,
+    pub capacity: u32,
     pub flow: Vec<u32>,
     pub side: Vec<u8>,
     pub work: Vec<u32>,
@@ -40,6 +43,7 @@ impl Call {
             stamp: 0,
             answer_stamp: 0,
             place: 0,
+            capacity: 0,
             flow: Vec::new(),
             side: Vec::new(),
             work: Vec::new(),
@@ -79,6 +83,7 @@ pub fn sent(call: &Call) -> Vec<u8> {
         call.stamp,
         call.answer_stamp,
         call.place,
+        call.capacity,
     ];
     let lengths = [
         table.tails.len(),
@@ -106,10 +111,8 @@ fn nine(fields: &[u32]) -> [u64; 9] {
     numbers
 }
 
-/// Solves the call's table: an answer's nine numbers.
-fn make_solving(call: &mut Call) -> [u64; 9] {
-    let table = call.table.lent();
-    let answer = solve(&table, call.stamp, &mut call.flow, &mut call.side, &mut call.work);
+/// The nine numbers of an answer.
+fn nine_of(answer: Answer) -> [u64; 9] {
     [
         u64::from(answer.refusal),
         u64::from(answer.place),
@@ -121,6 +124,29 @@ fn make_solving(call: &mut Call) -> [u64; 9] {
         answer.nonsaturating,
         answer.relabels,
     ]
+}
+
+/// Solves the call's table: an answer's nine numbers.
+fn make_solving(call: &mut Call) -> [u64; 9] {
+    let table = call.table.lent();
+    nine_of(solve(
+        &table,
+        call.stamp,
+        &mut call.flow,
+        &mut call.side,
+        &mut call.work,
+    ))
+}
+
+/// Opens the call's place: an answer's nine numbers.
+fn make_opening(call: &mut Call) -> [u64; 9] {
+    let table = call.table.lent();
+    let opening = Opening {
+        place: call.place,
+        capacity: call.capacity,
+    };
+    let (flow, side, work) = (&mut call.flow, &mut call.side, &mut call.work);
+    nine_of(open(&table, call.stamp, opening, flow, side, work))
 }
 
 /// Reads the call's rows by place: a reading's five numbers.
@@ -158,6 +184,7 @@ fn make(call: &mut Call) -> [u64; 9] {
         Kind::ReadPlace => make_reading(call),
         Kind::ReadText => make_text_reading(call),
         Kind::Serve => make_serving(call),
+        Kind::Open => make_opening(call),
     }
 }
 

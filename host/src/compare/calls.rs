@@ -14,12 +14,12 @@ pub fn odd_number(random: &mut Random) -> u32 {
 }
 
 /// A mark that a lent row may hold beforehand: mostly 0 or 1, as in an answer.
-fn odd_mark(random: &mut Random) -> u8 {
+pub fn odd_mark(random: &mut Random) -> u8 {
     random.one_of(&[0, 0, 0, 1, 1, 1, 2, 255])
 }
 
 /// The length of a lent row that needs `need` numbers: exact, longer, or shorter.
-fn row_length(random: &mut Random, need: u64) -> usize {
+pub fn row_length(random: &mut Random, need: u64) -> usize {
     let need = need.min(20_000) as usize;
     match random.between(0, 19) {
         0 => need.saturating_sub(1),
@@ -40,7 +40,7 @@ fn odd_marks(random: &mut Random, need: u64) -> Vec<u8> {
 }
 
 /// Shortens one of the three arc rows, or makes it longer.
-fn part_rows(random: &mut Random, table: &mut OwnTable) {
+pub fn part_rows(random: &mut Random, table: &mut OwnTable) {
     let row = match random.between(0, 2) {
         0 => &mut table.tails,
         1 => &mut table.heads,

@@ -3,6 +3,7 @@
 
 pub mod caller;
 pub mod calls;
+pub mod openings;
 pub mod random;
 pub mod readings;
 pub mod spacing;
@@ -218,6 +219,15 @@ pub const READINGS: Calls = Calls {
     brought: readings::brought,
     wanted: readings::wanted,
     enough: 2_000,
+};
+
+/// Opening a place.
+pub const OPENINGS: Calls = Calls {
+    what: "openings",
+    random: openings::random_opening,
+    brought: openings::brought,
+    wanted: openings::wanted,
+    enough: ENOUGH,
 };
 
 /// Makes each call through the caller, and compares all that comes back.

@@ -1,0 +1,52 @@
+-- What the code asks of the rows that it is lent: for the contracts of the functions that fill chains.
+use Prim.Native.Nat.{ℕ, _≤_, _<_}
+use mathlib.Core.Path.{_≡_}
+use mathlib.Core.Bool.{Bool, cond}
+use mathlib.Core.List.{List}
+use lib.ListN.{length}
+use Rattle.rows.specs.Row.{Node, atPlace}
+use Rattle.network.specs.Network.{Network, Flow}
+use Rattle.table.specs.Table.{Table, tableOf}
+use Rattle.augment.specs.Ways.{Ways}
+use Rattle.augment.specs.Augment.{boundNetwork, waysIn, reaches, augmented}
+
+-- The residual arcs of five rows: tails, heads, capacities, minimums and flows.
+abbrev pub rowWays : (tails heads capacities minimums flow : List ℕ) → Ways
+rowWays tails heads capacities minimums flow = waysIn (boundNetwork 0 0 0 tails heads capacities minimums) flow
+
+-- The table of these rows, whichever nodes are source and sink: its lists are theirs.
+abbrev pub endsOf : (n : ℕ) (tails heads capacities : List ℕ) → Table
+endsOf n tails heads capacities = tableOf n 0 0 tails heads capacities
+
+-- The ends of arcs among n nodes: a table's, with room for two nodes more, and for two arcs more at each node and two besides.
+pub record WideEnds (n : ℕ) (tails heads : List ℕ) : Type 0 where
+  pub few-nodes : n ≤ 514
+  pub few-arcs : length tails ≤ 5122
+  pub heads-long : length heads ≡ length tails
+  pub tail-node : (k : ℕ) → k < length tails → Node n (atPlace tails k)
+  pub head-node : (k : ℕ) → k < length tails → Node n (atPlace heads k)
+  pub no-loop : (k : ℕ) → k < length tails → atPlace tails k ≡ atPlace heads k → ⊥
+
+-- Three rows of such arcs: their ends, and a capacity for each.
+pub record WideRows (n : ℕ) (tails heads capacities : List ℕ) : Type 0 where
+  pub ends : WideEnds n tails heads
+  pub capacities-long : length capacities ≡ length tails
+
+-- The rows fit together: arcs among n nodes, with a minimum and a flow for each.
+pub record Rows (n : ℕ) (tails heads capacities minimums flow : List ℕ) : Type 0 where
+  pub arcs : WideRows n tails heads capacities
+  pub minimums-long : length minimums ≡ length capacities
+  pub flow-long : length capacities ≤ length flow
+
+-- What going on from a flow asks: rows that fit together, source and sink two of the nodes, and a flow in the rows.
+pub record Ready (n s t : ℕ) (tails heads capacities minimums flow : List ℕ) : Type 0 where
+  pub rows : Rows n tails heads capacities minimums flow
+  pub source : Node n s
+  pub sink : Node n t
+  pub apart : s ≡ t → ⊥
+  pub valid : Flow (boundNetwork n s t tails heads capacities minimums) (atPlace flow)
+
+-- One chain filled, or none: whether there was one, and the flow row after.
+pub record Extended (N : Network) (before after : List ℕ) (more : Bool) : Type 0 where
+  pub told : more ≡ reaches N before
+  pub row : after ≡ cond (reaches N before) (augmented N before) before

@@ -1,0 +1,527 @@
+// Going on from a flow along chains of fewest residual arcs, each filled by its least residual, until the sink can't be reached.
+ghost use Prim.Native.Nat.{_+_, _-_, _≤_, _<_, min};
+ghost use mathlib.Core.Path.{_≡_};
+ghost use mathlib.Core.Bool.{true, cond};
+ghost use lib.ListN.{length, getD, set, take, replicate};
+ghost use lib.Dec.{eqb};
+ghost use Rattle.rows.specs.Row.{atNode, Node};
+ghost use Rattle.arcs.specs.Residual.{Places};
+ghost use Rattle.arcs.specs.Work.{InWork};
+ghost use Rattle.augment.specs.Ways.{otherEnd};
+ghost use Rattle.augment.specs.Distance.{leadsBy, distances, next, chainFrom};
+ghost use Rattle.augment.specs.Visits.{ListOf, mayInto, front, giveOf, lookTo, Open};
+ghost use Rattle.augment.specs.Chain.{Chain};
+ghost use Rattle.augment.specs.Augment.{boundNetwork, leastResidual, filled, Fits, reaches, chainIn, augmented, settled};
+ghost use Rattle.augment.specs.Rows.{rowWays, endsOf, Rows, Ready, Extended};
+
+// Gives node i the distance d and notes it to be visited, where the way from it is open and it has no distance yet; answers how many are noted.
+fn give(
+    may: bool,
+    i: u32,
+    d: u32,
+    none: u32,
+    todo: &mut [u32],
+    count: usize,
+    dist: &mut [u32],
+) -> usize
+    requires { ⌜ Node (length (now dist)) i × Open none d (front (now dist) (now todo) count) ⌝ }
+    ensures { λ r. ⌜ front (now (dist .exit)) (now (todo .exit)) r ≡ giveOf none d may i (front (now (dist .entry)) (now (todo .entry)) count) ⌝ }
+{
+    if !may {
+        return count;
+    }
+    let p = (i - 1) as usize;
+    if dist[p] != none {
+        return count;
+    }
+    dist[p] = d;
+    todo[count] = i;
+    count + 1
+}
+
+// Looks at the arc at place k, which touches node j: its other end gets the distance d where the arc may be walked from there to j.
+fn look(
+    tails: &[u32],
+    heads: &[u32],
+    capacities: &[u32],
+    minimums: &[u32],
+    flow: &[u32],
+    j: u32,
+    k: u32,
+    d: u32,
+    none: u32,
+    todo: &mut [u32],
+    count: usize,
+    dist: &mut [u32],
+) -> usize
+    requires { ⌜ Rows none (now tails) (now heads) (now capacities) (now minimums) (now flow) × (length (now dist) ≡ none) × (k < length (now capacities)) ⌝ }
+    requires { ⌜ Open none d (front (now dist) (now todo) count) ⌝ }
+    ensures { λ r. ⌜ front (now (dist .exit)) (now (todo .exit)) r ≡ giveOf none d (mayInto (rowWays (now (tails .entry)) (now (heads .entry)) (now (capacities .entry)) (now (minimums .entry)) (now (flow .entry))) j k) (otherEnd (rowWays (now (tails .entry)) (now (heads .entry)) (now (capacities .entry)) (now (minimums .entry)) (now (flow .entry))) j k) (front (now (dist .entry)) (now (todo .entry)) count) ⌝ }
+{
+    let at = k as usize;
+    let f = flow[at];
+    let tail = tails[at];
+    if tail == j {
+        return give(minimums[at] < f, heads[at], d, none, todo, count, dist);
+    }
+    give(f < capacities[at], tail, d, none, todo, count, dist)
+}
+
+// Looks at every arc of node j's list, and answers how many nodes are noted then.
+fn visit(
+    tails: &[u32],
+    heads: &[u32],
+    capacities: &[u32],
+    minimums: &[u32],
+    flow: &[u32],
+    list: &[u32],
+    j: u32,
+    d: u32,
+    none: u32,
+    todo: &mut [u32],
+    count: usize,
+    dist: &mut [u32],
+) -> usize
+    requires { ⌜ Rows none (now tails) (now heads) (now capacities) (now minimums) (now flow) × (length (now dist) ≡ none) ⌝ }
+    requires { ⌜ Places (length (now capacities)) (now list) × Open none d (front (now dist) (now todo) count) ⌝ }
+    ensures { λ r. ⌜ front (now (dist .exit)) (now (todo .exit)) r ≡ lookTo (rowWays (now (tails .entry)) (now (heads .entry)) (now (capacities .entry)) (now (minimums .entry)) (now (flow .entry))) none d j (now (list .entry)) (length (now (list .entry))) (front (now (dist .entry)) (now (todo .entry)) count) ⌝ }
+{
+    let mut noted = count;
+    let mut p = 0;
+    while p < list.len() {
+        noted = look(
+            tails,
+            heads,
+            capacities,
+            minimums,
+            flow,
+            j,
+            list[p],
+            d,
+            none,
+            todo,
+            noted,
+            dist,
+        );
+        p += 1;
+    }
+    noted
+}
+
+// No node has a distance.
+fn reset(dist: &mut [u32], none: u32)
+    ensures { λ _. ⌜ now (dist .exit) ≡ replicate (length (now (dist .entry))) none ⌝ }
+{
+    let mut i = 0;
+    while i < dist.len() {
+        dist[i] = none;
+        i += 1;
+    }
+}
+
+// The distance of every node to node t over residual arcs, or their number where t is not reached. A list of nodes still to be visited is kept, the nearer ones first, and each one's arcs are looked at once: O(n + m). The nodes' lists stand in the work row.
+fn measure(
+    tails: &[u32],
+    heads: &[u32],
+    capacities: &[u32],
+    minimums: &[u32],
+    flow: &[u32],
+    work: &[u32],
+    t: u32,
+    none: u32,
+    todo: &mut [u32],
+    dist: &mut [u32],
+)
+    requires { ⌜ Rows none (now tails) (now heads) (now capacities) (now minimums) (now flow) ⌝ }
+    requires { ⌜ InWork (endsOf none (now tails) (now heads) (now capacities)) (now work) ⌝ }
+    requires { ⌜ Node none t × (length (now dist) ≡ none) × (none ≤ length (now todo)) ⌝ }
+    ensures { λ _. ⌜ now (dist .exit) ≡ distances (rowWays (now (tails .entry)) (now (heads .entry)) (now (capacities .entry)) (now (minimums .entry)) (now (flow .entry))) none t ⌝ }
+{
+    reset(dist, none);
+    dist[(t - 1) as usize] = 0;
+    todo[0] = t;
+    let mut at = 0;
+    let mut count = 1;
+    while at < count {
+        let j = todo[at];
+        let d = dist[(j - 1) as usize] + 1;
+        count = visit(
+            tails,
+            heads,
+            capacities,
+            minimums,
+            flow,
+            arcs::node_list(work, none, capacities.len(), j),
+            j,
+            d,
+            none,
+            todo,
+            count,
+            dist,
+        );
+        at += 1;
+    }
+}
+
+// Whether the arc may be walked from node i to a node at distance d.
+fn leads(dist: &[u32], d: u32, i: u32, tail: u32, head: u32, fore: bool, back: bool) -> bool
+    requires { ⌜ Node (length (now dist)) tail × Node (length (now dist)) head ⌝ }
+    ensures { λ r. ⌜ r ≡ leadsBy tail head i fore back (eqb (atNode (now (dist .entry)) head) d) (eqb (atNode (now (dist .entry)) tail) d) ⌝ }
+{
+    if tail == i {
+        if !fore {
+            return false;
+        }
+        return dist[(head - 1) as usize] == d;
+    }
+    if head != i {
+        return false;
+    }
+    if !back {
+        return false;
+    }
+    dist[(tail - 1) as usize] == d
+}
+
+// The lowest place that leads from node i to distance d, by node i's list, or the number of places.
+fn next_place(
+    tails: &[u32],
+    heads: &[u32],
+    capacities: &[u32],
+    minimums: &[u32],
+    flow: &[u32],
+    list: &[u32],
+    dist: &[u32],
+    d: u32,
+    i: u32,
+) -> usize
+    requires { ⌜ Rows (length (now dist)) (now tails) (now heads) (now capacities) (now minimums) (now flow) ⌝ }
+    requires { ⌜ ListOf (rowWays (now tails) (now heads) (now capacities) (now minimums) (now flow)) i (now list) ⌝ }
+    ensures { λ r. ⌜ r ≡ next (rowWays (now (tails .entry)) (now (heads .entry)) (now (capacities .entry)) (now (minimums .entry)) (now (flow .entry))) (now (dist .entry)) d i ⌝ }
+{
+    let mut p = 0;
+    while p < list.len() {
+        let k = list[p] as usize;
+        let f = flow[k];
+        if leads(
+            dist,
+            d,
+            i,
+            tails[k],
+            heads[k],
+            f < capacities[k],
+            minimums[k] < f,
+        ) {
+            return k;
+        }
+        p += 1;
+    }
+    capacities.len()
+}
+
+// The end of an arc that is not i.
+fn far_of(i: u32, tail: u32, head: u32) -> u32
+    ensures { λ r. ⌜ r ≡ cond (eqb tail i) head tail ⌝ }
+{
+    if tail == i {
+        return head;
+    }
+    tail
+}
+
+// The chain from node s, at each node by the lowest place that leads one nearer, into the first places of `chain`; how many they are.
+fn walk(
+    tails: &[u32],
+    heads: &[u32],
+    capacities: &[u32],
+    minimums: &[u32],
+    flow: &[u32],
+    work: &[u32],
+    dist: &[u32],
+    n: u32,
+    s: u32,
+    t: u32,
+    chain: &mut [u32],
+) -> usize
+    requires { ⌜ Rows (length (now dist)) (now tails) (now heads) (now capacities) (now minimums) (now flow) ⌝ }
+    requires { ⌜ InWork (endsOf n (now tails) (now heads) (now capacities)) (now work) × (length (now dist) ≡ n) ⌝ }
+    requires { ⌜ Node (length (now dist)) s × Node (length (now dist)) t ⌝ }
+    requires { ⌜ now dist ≡ distances (rowWays (now tails) (now heads) (now capacities) (now minimums) (now flow)) (length (now dist)) t ⌝ }
+    requires { ⌜ atNode (now dist) s < length (now dist) ⌝ }
+    requires { ⌜ atNode (now dist) s ≤ length (now chain) ⌝ }
+    ensures { λ r. ⌜ (r ≡ atNode (now (dist .entry)) s) × (take r (now (chain .exit)) ≡ chainFrom (rowWays (now (tails .entry)) (now (heads .entry)) (now (capacities .entry)) (now (minimums .entry)) (now (flow .entry))) (now (dist .entry)) (atNode (now (dist .entry)) s) s) ⌝ }
+{
+    let mut i = s;
+    let mut d = dist[(s - 1) as usize];
+    let mut p = 0;
+    while 0 < d {
+        d -= 1;
+        let list = arcs::node_list(work, n, capacities.len(), i);
+        let k = next_place(tails, heads, capacities, minimums, flow, list, dist, d, i);
+        chain[p] = k as u32;
+        i = far_of(i, tails[k], heads[k]);
+        p += 1;
+    }
+    p
+}
+
+// The residual of the arc at place k away from node i.
+fn residual_at(
+    tails: &[u32],
+    capacities: &[u32],
+    minimums: &[u32],
+    flow: &[u32],
+    i: u32,
+    k: usize,
+) -> u32
+    requires { ⌜ (k < length (now tails)) × (k < length (now capacities)) × (k < length (now minimums)) × (k < length (now flow)) ⌝ }
+    requires { ⌜ (getD (now minimums) k 0 ≤ getD (now flow) k 0) × (getD (now flow) k 0 ≤ getD (now capacities) k 0) ⌝ }
+    ensures { λ r. ⌜ r ≡ cond (eqb (getD (now (tails .entry)) k 0) i) (getD (now (capacities .entry)) k 0 - getD (now (flow .entry)) k 0) (getD (now (flow .entry)) k 0 - getD (now (minimums .entry)) k 0) ⌝ }
+{
+    let f = flow[k];
+    if tails[k] == i {
+        return capacities[k] - f;
+    }
+    f - minimums[k]
+}
+
+// The far end of the arc at place k, away from node i.
+fn far_at(tails: &[u32], heads: &[u32], i: u32, k: usize) -> u32
+    requires { ⌜ (k < length (now tails)) × (k < length (now heads)) ⌝ }
+    ensures { λ r. ⌜ r ≡ cond (eqb (getD (now (tails .entry)) k 0) i) (getD (now (heads .entry)) k 0) (getD (now (tails .entry)) k 0) ⌝ }
+{
+    far_of(i, tails[k], heads[k])
+}
+
+// The smaller of two numbers.
+fn lesser(a: u32, b: u32) -> u32
+    ensures { λ r. ⌜ r ≡ min a b ⌝ }
+{
+    if a <= b {
+        return a;
+    }
+    b
+}
+
+// The least residual of the chain's arcs from node s on.
+fn least_residual(
+    tails: &[u32],
+    heads: &[u32],
+    capacities: &[u32],
+    minimums: &[u32],
+    flow: &[u32],
+    chain: &[u32],
+    n: u32,
+    s: u32,
+    t: u32,
+) -> u32
+    requires { ⌜ Ready n s t (now tails) (now heads) (now capacities) (now minimums) (now flow) ⌝ }
+    requires { ⌜ Chain (rowWays (now tails) (now heads) (now capacities) (now minimums) (now flow)) t s (now chain) ⌝ }
+    requires { ⌜ 0 < length (now chain) ⌝ }
+    ensures { λ r. ⌜ r ≡ leastResidual (boundNetwork n s t (now (tails .entry)) (now (heads .entry)) (now (capacities .entry)) (now (minimums .entry))) (now (flow .entry)) s (now (chain .entry)) ⌝ }
+{
+    let mut least = residual_at(tails, capacities, minimums, flow, s, chain[0] as usize);
+    let mut i = s;
+    let mut p = 0;
+    while p < chain.len() {
+        let k = chain[p] as usize;
+        least = lesser(least, residual_at(tails, capacities, minimums, flow, i, k));
+        i = far_at(tails, heads, i, k);
+        p += 1;
+    }
+    least
+}
+
+// Moves d over the arc at place k away from node i.
+fn move_at(tails: &[u32], flow: &mut [u32], i: u32, k: usize, d: u32)
+    requires { ⌜ (k < length (now tails)) × (k < length (now flow)) ⌝ }
+    requires { ⌜ (getD (now tails) k 0 ≡ i → getD (now flow) k 0 + d < 4294967296) × ((getD (now tails) k 0 ≡ i → ⊥) → d ≤ getD (now flow) k 0) ⌝ }
+    ensures { λ _. ⌜ now (flow .exit) ≡ set (now (flow .entry)) k (cond (eqb (getD (now (tails .entry)) k 0) i) (getD (now (flow .entry)) k 0 + d) (getD (now (flow .entry)) k 0 - d)) ⌝ }
+{
+    let f = flow[k];
+    if tails[k] == i {
+        flow[k] = f + d;
+        return;
+    }
+    flow[k] = f - d;
+}
+
+// Fills the chain from node s on by d.
+fn fill(
+    tails: &[u32],
+    heads: &[u32],
+    capacities: &[u32],
+    minimums: &[u32],
+    flow: &mut [u32],
+    chain: &[u32],
+    n: u32,
+    s: u32,
+    t: u32,
+    d: u32,
+)
+    requires { ⌜ Rows n (now tails) (now heads) (now capacities) (now minimums) (now flow) ⌝ }
+    requires { ⌜ Fits (boundNetwork n s t (now tails) (now heads) (now capacities) (now minimums)) d s (now chain) (now flow) ⌝ }
+    requires { ⌜ 0 < d ⌝ }
+    ensures { λ _. ⌜ now (flow .exit) ≡ filled (boundNetwork n s t (now (tails .entry)) (now (heads .entry)) (now (capacities .entry)) (now (minimums .entry))) d s (now (chain .entry)) (now (flow .entry)) ⌝ }
+{
+    let mut i = s;
+    let mut p = 0;
+    while p < chain.len() {
+        let k = chain[p] as usize;
+        move_at(tails, flow, i, k, d);
+        i = far_at(tails, heads, i, k);
+        p += 1;
+    }
+}
+
+// Fills the chain by its least residual.
+fn pour(
+    tails: &[u32],
+    heads: &[u32],
+    capacities: &[u32],
+    minimums: &[u32],
+    n: u32,
+    s: u32,
+    t: u32,
+    flow: &mut [u32],
+    chain: &[u32],
+)
+    requires { ⌜ Ready n s t (now tails) (now heads) (now capacities) (now minimums) (now flow) ⌝ }
+    requires { ⌜ reaches (boundNetwork n s t (now tails) (now heads) (now capacities) (now minimums)) (now flow) ≡ true ⌝ }
+    requires { ⌜ now chain ≡ chainIn (boundNetwork n s t (now tails) (now heads) (now capacities) (now minimums)) (now flow) ⌝ }
+    ensures { λ _. ⌜ now (flow .exit) ≡ augmented (boundNetwork n s t (now (tails .entry)) (now (heads .entry)) (now (capacities .entry)) (now (minimums .entry))) (now (flow .entry)) ⌝ }
+{
+    let d = least_residual(tails, heads, capacities, minimums, flow, chain, n, s, t);
+    fill(tails, heads, capacities, minimums, flow, chain, n, s, t, d);
+}
+
+// Fills one chain of fewest residual arcs, the first of them by its places, by its least residual; says whether there was one. The chain's row serves the measuring before.
+fn extend(
+    tails: &[u32],
+    heads: &[u32],
+    capacities: &[u32],
+    minimums: &[u32],
+    n: u32,
+    s: u32,
+    t: u32,
+    flow: &mut [u32],
+    work: &[u32],
+    dist: &mut [u32],
+    chain: &mut [u32],
+) -> bool
+    requires { ⌜ Ready n s t (now tails) (now heads) (now capacities) (now minimums) (now flow) ⌝ }
+    requires { ⌜ InWork (endsOf n (now tails) (now heads) (now capacities)) (now work) ⌝ }
+    requires { ⌜ length (now dist) ≡ n ⌝ }
+    requires { ⌜ n ≤ length (now chain) ⌝ }
+    ensures { λ r. ⌜ Extended (boundNetwork n s t (now (tails .entry)) (now (heads .entry)) (now (capacities .entry)) (now (minimums .entry))) (now (flow .entry)) (now (flow .exit)) r ⌝ }
+{
+    measure(
+        tails,
+        heads,
+        capacities,
+        minimums,
+        flow,
+        work,
+        t,
+        n,
+        chain,
+        dist,
+    );
+    if n <= dist[(s - 1) as usize] {
+        return false;
+    }
+    let count = walk(
+        tails,
+        heads,
+        capacities,
+        minimums,
+        flow,
+        work,
+        dist,
+        n,
+        s,
+        t,
+        chain,
+    );
+    pour(
+        tails,
+        heads,
+        capacities,
+        minimums,
+        n,
+        s,
+        t,
+        flow,
+        &chain[..count],
+    );
+    true
+}
+
+// Fills chains until the sink can't be reached, with a row of n distances and one for a chain.
+fn go_on_with(
+    n: u32,
+    s: u32,
+    t: u32,
+    tails: &[u32],
+    heads: &[u32],
+    capacities: &[u32],
+    minimums: &[u32],
+    flow: &mut [u32],
+    work: &[u32],
+    dist: &mut [u32],
+    chain: &mut [u32],
+)
+    requires { ⌜ Ready n s t (now tails) (now heads) (now capacities) (now minimums) (now flow) ⌝ }
+    requires { ⌜ InWork (endsOf n (now tails) (now heads) (now capacities)) (now work) ⌝ }
+    requires { ⌜ length (now dist) ≡ n ⌝ }
+    requires { ⌜ n ≤ length (now chain) ⌝ }
+    ensures { λ _. ⌜ now (flow .exit) ≡ settled (boundNetwork n s t (now (tails .entry)) (now (heads .entry)) (now (capacities .entry)) (now (minimums .entry))) (now (flow .entry)) ⌝ }
+{
+    while extend(
+        tails,
+        heads,
+        capacities,
+        minimums,
+        n,
+        s,
+        t,
+        flow,
+        work,
+        dist,
+        chain,
+    ) {}
+}
+
+// Goes on from the flow row along chains of fewest residual arcs, each filled by its least residual, until the sink can't be reached. The nodes' lists stand in the work row.
+pub fn go_on(
+    n: u32,
+    s: u32,
+    t: u32,
+    tails: &[u32],
+    heads: &[u32],
+    capacities: &[u32],
+    minimums: &[u32],
+    flow: &mut [u32],
+    work: &[u32],
+)
+    requires { ⌜ Ready n s t (now tails) (now heads) (now capacities) (now minimums) (now flow) ⌝ }
+    requires { ⌜ InWork (endsOf n (now tails) (now heads) (now capacities)) (now work) ⌝ }
+    ensures { λ _. ⌜ now (flow .exit) ≡ settled (boundNetwork n s t (now (tails .entry)) (now (heads .entry)) (now (capacities .entry)) (now (minimums .entry))) (now (flow .entry)) ⌝ }
+{
+    let mut dist = [0u32; 514];
+    let mut chain = [0u32; 514];
+    let nodes = n as usize;
+    go_on_with(
+        n,
+        s,
+        t,
+        tails,
+        heads,
+        capacities,
+        minimums,
+        flow,
+        work,
+        &mut dist[..nodes],
+        &mut chain,
+    )
+}

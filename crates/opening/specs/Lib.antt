@@ -1,0 +1,4 @@
+pub mod Maximum
+pub mod Opening
+pub mod Steps
+pub mod Examples
