@@ -101,7 +101,7 @@ module _ {n s t : ℕ} {tails heads capacities minimums flow₀ side₀ spare mo
         }
 
     -- Its lists can be made.
-    pub lists-asked : (room : ℕ) → 12301 ≤ room → WideEnds n tails heads × (workEnd n (length tails) ≤ room)
+    pub lists-asked : (room : ℕ) → workEnd 514 5122 ≤ room → WideEnds n tails heads × (workEnd n (length tails) ≤ room)
     lists-asked room h = (ready .rows .arcs .ends, omega (arith, rows .arcs .ends .few-nodes, rows .arcs .ends .few-arcs))
 
     module _ {flow₂ : List ℕ} (gone : flow₂ ≡ settled (boundNetwork n s t tails heads capacities minimums) flow₁) where

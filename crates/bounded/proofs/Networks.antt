@@ -1,4 +1,4 @@
--- The rows of the joined network make it, and going on from no flow in it tells whether some flow keeps all arcs between their numbers.
+-- The rows of the joined network make it, and going on in it from what it carries of a flow tells whether some flow keeps all arcs between their numbers.
 use Prim.Native.Nat.{ℕ, _+_, _-_, _≤_, _<_, min}
 use mathlib.Core.Path.{_≡_, refl, ap, ap₂, sym, subst, _∙_}
 use mathlib.Core.Bool.{Bool, true, false, true≢false}
@@ -320,7 +320,7 @@ module _ {n s t : ℕ} {tails heads capacities minimums : List ℕ} (accepted : 
         }
 
     -- their lists can be made,
-    pub joined-lists : (room : ℕ) → 12301 ≤ room → WideEnds (n + 2) tails₂ heads₂ × (workEnd (n + 2) (length tails₂) ≤ room)
+    pub joined-lists : (room : ℕ) → workEnd 514 5122 ≤ room → WideEnds (n + 2) tails₂ heads₂ × (workEnd (n + 2) (length tails₂) ≤ room)
     joined-lists room h =
         let few = accepted .rows .arcs .ends .few-arcs in
         let nodes = accepted .rows .arcs .ends .few-nodes in

@@ -5,6 +5,7 @@ use mathlib.Core.Bool.{Bool, true, false}
 use mathlib.Core.List.{List, _++_}
 use lib.ListN.{length, take, drop, replicate}
 use Rattle.rows.specs.Row.{atPlace, byPlace}
+use Rattle.arcs.specs.Work.{workEnd}
 use Rattle.joined.specs.Joined.{Loose}
 use Rattle.table.specs.Table.{arcs, capacity}
 use Rattle.bounded.specs.Bounded.{BoundedTable, boundedOf, boundedNetwork, AcceptedBounded, minimum, BoundedFlow, NoFlow, boundedSide, GreatestBounded}
@@ -37,7 +38,7 @@ pub record OwnRows (m size : ℕ) (from to limits none met more lists : List ℕ
   pub none-empty : none ≡ replicate size 0
   pub met-long : length met ≡ m
   pub more-long : length more ≡ size
-  pub lists-long : 12301 ≤ length lists
+  pub lists-long : workEnd 514 5122 ≤ length lists
 
 -- Whether some flow keeps all arcs between their numbers; where one does, what a row holds above the minimums is such a flow.
 pub record Feasible (b : BoundedTable) (more : List ℕ) (yes : Bool) : Type 0 where

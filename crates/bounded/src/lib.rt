@@ -7,6 +7,7 @@ ghost use lib.IntN.{pos, _-ℤ_};
 ghost use lib.ListN.{length, drop, replicate};
 ghost use Rattle.rows.specs.Row.{atPlace, byPlace};
 ghost use Rattle.start.specs.Sums.{sumAt};
+ghost use Rattle.arcs.specs.Work.{workEnd};
 ghost use Rattle.bounded.specs.Bounded.{BoundedRows, boundedOf, AcceptedBounded};
 ghost use Rattle.bounded.specs.Joining.{joinedArcs, joinedTail, joinedHead, joinedCapacity, Few, Small, JoinedRows, metRow, joinedFlow, FirstRows};
 ghost use Rattle.bounded.specs.Filling.{Full};
@@ -259,7 +260,7 @@ fn feasible(
     requires { ⌜ JoinedRows n s t (now tails) (now heads) (now capacities) (now minimums) (now from) (now to) (now limits) ⌝ }
     requires { ⌜ now none ≡ replicate (joinedArcs n (length (now capacities))) 0 ⌝ }
     requires { ⌜ Started n s t (now tails) (now heads) (now capacities) (now minimums) (now more) ⌝ }
-    requires { ⌜ 12301 ≤ length (now lists) ⌝ }
+    requires { ⌜ workEnd 514 5122 ≤ length (now lists) ⌝ }
     ensures { λ r. ⌜ Feasible (boundedOf n s t (now (tails .entry)) (now (heads .entry)) (now (capacities .entry)) (now (minimums .entry))) (now (more .exit)) r ⌝ }
 {
     arcs::fill_work(n + 2, from, to, lists);
@@ -285,7 +286,7 @@ fn greatest(
 ) -> i64
     requires { ⌜ Solvable (boundedOf n s t (now tails) (now heads) (now capacities) (now minimums)) (now flow) (now side) ⌝ }
     requires { ⌜ Above (boundedOf n s t (now tails) (now heads) (now capacities) (now minimums)) (now spare) (now more) ⌝ }
-    requires { ⌜ 12301 ≤ length (now lists) ⌝ }
+    requires { ⌜ workEnd 514 5122 ≤ length (now lists) ⌝ }
     ensures { λ r. ⌜ Leaves (boundedOf n s t (now (tails .entry)) (now (heads .entry)) (now (capacities .entry)) (now (minimums .entry))) (now (flow .entry)) (now (side .entry)) (Value r) (now (flow .exit)) (now (side .exit)) ⌝ }
 {
     add_minimums(more, minimums, flow);
@@ -396,7 +397,7 @@ pub fn solve_bounded(
     let none = [0u32; 5122];
     let mut met = [0u32; 4096];
     let mut more = [0u32; 5122];
-    let mut lists = [0u32; 12301];
+    let mut lists = [0u32; 4 * 514 + 2 * 5122 + 1];
     let arcs = minimums.len();
     let nodes = n as usize;
     let size = capacities.len() + (nodes + (nodes + 2));

@@ -17,7 +17,7 @@ use Rattle.table.specs.Checks.{isFine, refuseIf, outside, differ, badEnds, orEl
 use Rattle.table.proofs.Faults.{orElse-fine, passed, neither, inOrder-sizes}
 use Rattle.table.proofs.Accepts.{sizes-fine, both-fine, check-accepts}
 use Rattle.bounded.specs.Bounded.{BoundedTable, AcceptedBounded}
-use Rattle.minimums.specs.Checks.{differFour, boundedSizes, boundedFault, firstBoundedFault, boundedCheck, withMinimums, endOf, Above, none, first}
+use Rattle.minimums.specs.Checks.{differFour, boundedSizes, boundedFault, firstBoundedFault, boundedCheck, withMinimums, endOf, FirstAbove, none, first}
 
 -- ---- the sizes
 
@@ -115,7 +115,7 @@ first-within n place (t ∷ ts) (h ∷ hs) (c ∷ cs) =
 -- ---- a minimum above its capacity before the place that three rows refuse
 
 -- Before place 0 there is none.
-none-before : (cs ls : List ℕ) (v : Verdict) {a : Verdict} → Above 0 0 cs ls a → orElse a v ≡ v
+none-before : (cs ls : List ℕ) (v : Verdict) {a : Verdict} → FirstAbove 0 0 cs ls a → orElse a v ≡ v
 unfolding orElse
 none-before cs ls v (none each) = refl
 none-before cs ls v (first k at is l above lower) = absurd (omega arith)
@@ -127,8 +127,8 @@ end-later place e m (Refused name q) (between _ _ l h) is = (is, omega arith)
 
 -- One arc more in front: its own fault, its minimum, and the rest.
 one-more : (place e c l m : ℕ) (cs ls : List ℕ) (w v b : Verdict) → At place w → Within (suc place) (suc place + m) v
-    → e ≡ endOf (orElse w v) (place + suc m) → {a : Verdict} → Above place e (c ∷ cs) (l ∷ ls) a
-    → ((x : Verdict) → e ≡ endOf v (suc place + m) → Above (suc place) e cs ls x → orElse x v ≡ b)
+    → e ≡ endOf (orElse w v) (place + suc m) → {a : Verdict} → FirstAbove place e (c ∷ cs) (l ∷ ls) a
+    → ((x : Verdict) → e ≡ endOf v (suc place + m) → FirstAbove (suc place) e cs ls x → orElse x v ≡ b)
     → orElse a (orElse w v) ≡ orElse (orElse w (refuseIf (ltb c l) Minimum place Fine)) b
 unfolding orElse
 one-more place e c l m cs ls (Refused name _) v b (there _) r is (none each) rest = refl
@@ -147,7 +147,7 @@ one-more place e c l m cs ls Fine v b passes r is (first (suc k) at so h above l
 
 -- So it comes before what three rows refuse.
 faults-with : (n place e : ℕ) (ts hs cs ls : List ℕ) → length hs ≡ length ts → length cs ≡ length ts → length ls ≡ length ts
-    → e ≡ endOf (firstFault n place ts hs cs) (place + length cs) → {a : Verdict} → Above place e cs ls a
+    → e ≡ endOf (firstFault n place ts hs cs) (place + length cs) → {a : Verdict} → FirstAbove place e cs ls a
     → orElse a (firstFault n place ts hs cs) ≡ firstBoundedFault n place ts hs cs ls
 unfolding firstFault firstBoundedFault boundedFault orElse
 faults-with n place e [] hs cs ls p q r is (none each) = refl
@@ -176,7 +176,7 @@ module _ (t : Table) (ls : List ℕ) where
 
   -- By what the sizes say and whether there is room.
   by-sizes : (v : Verdict) (room : Bool) → At 0 v → (v ≡ Fine → sizes ≡ Fine) → length ls ≡ arcs t
-      → {a : Verdict} → Above 0 (endOf (inOrder v room three) (arcs t)) (t .capacities) ls a → orElse a (inOrder v room three) ≡ inOrder v room four
+      → {a : Verdict} → FirstAbove 0 (endOf (inOrder v room three) (arcs t)) (t .capacities) ls a → orElse a (inOrder v room three) ≡ inOrder v room four
   unfolding inOrder orElse
   by-sizes (Refused name _) room (there _) so many above = none-before (t .capacities) ls (Refused name 0) above
   by-sizes Fine false passes so many above = none-before (t .capacities) ls (Refused Room 0) above
@@ -187,7 +187,7 @@ module _ (t : Table) (ls : List ℕ) where
       (ap (endOf three) from) above
 
   -- As many minimums as arcs: the first minimum above its capacity that comes before what three rows refuse, or that.
-  pub check-with : (room : Bool) → length ls ≡ arcs t → {a : Verdict} → Above 0 (endOf (checkOf t room) (arcs t)) (t .capacities) ls a
+  pub check-with : (room : Bool) → length ls ≡ arcs t → {a : Verdict} → FirstAbove 0 (endOf (checkOf t room) (arcs t)) (t .capacities) ls a
       → orElse a (checkOf t room) ≡ boundedCheck (withMinimums t ls) room
   check-with room many above =
       by-sizes sizes room (sizes-at _ _ _ _ _ _) (λ e. e) many above
@@ -196,10 +196,10 @@ module _ (t : Table) (ls : List ℕ) where
 
   -- The same of what the code has: the verdict, the capacities and the end.
   pub check-by : (room : Bool) {found a : Verdict} {end : ℕ} {cs : List ℕ} → t .capacities ≡ cs → found ≡ checkOf t room → length cs ≡ length ls
-      → end ≡ endOf found (length cs) → Above 0 end cs ls a → orElse a found ≡ boundedCheck (withMinimums t ls) room
+      → end ≡ endOf found (length cs) → FirstAbove 0 end cs ls a → orElse a found ≡ boundedCheck (withMinimums t ls) room
   check-by room {found} {a} caps is many e above =
       ap (orElse a) is
-      ∙ check-with room (sym many ∙ ap length (sym caps)) (subst₂ (λ x y. Above 0 x y ls a) (e ∙ ap₂ endOf is (ap length (sym caps))) (sym caps) above)
+      ∙ check-with room (sym many ∙ ap length (sym caps)) (subst₂ (λ x y. FirstAbove 0 x y ls a) (e ∙ ap₂ endOf is (ap length (sym caps))) (sym caps) above)
 
   -- The arcs before what three rows refuse are few, and no more than there are.
   ends-by : (v : Verdict) (room : Bool) → At 0 v → (v ≡ Fine → sizes ≡ Fine) → (endOf (inOrder v room three) (arcs t) ≤ arcs t) × (endOf (inOrder v room three) (arcs t) ≤ 4096)

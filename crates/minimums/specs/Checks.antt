@@ -60,7 +60,7 @@ endOf Fine m = m
 endOf (Refused name place) m = place
 
 -- The first minimum above its capacity, of arcs whose places start at `place` and end before `end`, or none.
-pub data Above (place end : ℕ) (capacities minimums : List ℕ) : Verdict → Type 0 where
-  none : ((k : ℕ) → place + k < end → atPlace minimums k ≤ atPlace capacities k) → Above place end capacities minimums Fine
+pub data FirstAbove (place end : ℕ) (capacities minimums : List ℕ) : Verdict → Type 0 where
+  none : ((k : ℕ) → place + k < end → atPlace minimums k ≤ atPlace capacities k) → FirstAbove place end capacities minimums Fine
   first : (k at : ℕ) → at ≡ place + k → at < end → atPlace capacities k < atPlace minimums k
-      → ((j : ℕ) → j < k → atPlace minimums j ≤ atPlace capacities j) → Above place end capacities minimums (Refused Minimum at)
+      → ((j : ℕ) → j < k → atPlace minimums j ≤ atPlace capacities j) → FirstAbove place end capacities minimums (Refused Minimum at)

@@ -97,7 +97,7 @@ BoundingAs (Refused name place) b stamp flow side work l = l ≡ signedLeft (sig
 abbrev pub boundedVerdict : BoundedTable → (flow side work : ℕ) → Verdict
 boundedVerdict b flow side work = boundedCheck b (hasRoom (b .table .nodes) (arcs (b .table)) flow side work)
 
--- A table that no check refuses, by whether all minimums are 0.
+-- A table that no check refuses, by whether all minimums are 0: for the contract of the function that solves it.
 abbrev pub FineAs : Bool → (b : BoundedTable) (stamp : ℕ) (flow side work : List ℕ) → SignedLeft → Type 0
 FineAs true b stamp flow side work l = l ≡ leftWithSign (solved (b .table) stamp flow side work)
 FineAs false b stamp flow side work l = Bounding b stamp flow side work l

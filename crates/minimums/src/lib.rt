@@ -12,7 +12,7 @@ ghost use Rattle.table.specs.Checks.{checkOf};
 ghost use Rattle.arcs.specs.Work.{workNeed};
 ghost use Rattle.bounded.specs.Bounded.{boundedOf};
 ghost use Rattle.bounded.specs.Solving.{Solvable, First};
-ghost use Rattle.minimums.specs.Checks.{withMinimums, boundedCheck, endOf, Above};
+ghost use Rattle.minimums.specs.Checks.{withMinimums, boundedCheck, endOf, FirstAbove};
 ghost use Rattle.minimums.specs.Solving.{signedLeft, withSign, signedAnswer, signedRefusal, allZero, Bounding, FineAs, Solves};
 
 // What solving returns: a refusal's number and place, or 0 with the results. The value has a sign.
@@ -98,7 +98,7 @@ fn end_of(found: Verdict, m: usize) -> usize
 // The first minimum above its capacity at a place before `end`, or none.
 fn first_above(capacities: &[u32], minimums: &[u32], end: usize) -> Verdict
     requires { ⌜ (end ≤ length (now capacities)) × (end ≤ length (now minimums)) × (end ≤ 4096) ⌝ }
-    ensures { λ r. ⌜ Above 0 end (now (capacities .entry)) (now (minimums .entry)) r ⌝ }
+    ensures { λ r. ⌜ FirstAbove 0 end (now (capacities .entry)) (now (minimums .entry)) r ⌝ }
 {
     let mut place: usize = 0;
     while place < end {
