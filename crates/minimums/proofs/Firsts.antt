@@ -10,8 +10,7 @@ use Rattle.network.proofs.Agree.{inflow-agree, outflow-agree}
 use Rattle.table.specs.Table.{arcs, networkOf}
 use Rattle.table.specs.Accepted.{Accepted}
 use Rattle.run.specs.Phase.{run}
-use Rattle.run.proofs.Answers.{run-best}
-use Rattle.run.proofs.Whole.{run-fits}
+use Rattle.run.proofs.Answers.{run-best, run-fits}
 use Rattle.solver.specs.Solving.{solved}
 use Rattle.bounded.specs.Bounded.{BoundedTable, AcceptedBounded, boundedNetwork}
 use Rattle.bounded.specs.Solving.{First}
