@@ -2,11 +2,11 @@
 use Prim.Native.Nat.{ℕ}
 use mathlib.Core.Path.{_≡_, ap, fun-ext}
 use mathlib.Core.List.{List}
-use native.Mathlib.Omega.{arith}
 use lib.ListN.{length}
 use Rattle.rows.specs.Row.{atPlace}
 use Rattle.table.specs.Table.{tableOf, networkOf}
 use Rattle.table.specs.Accepted.{ArcRows}
+use Rattle.arcs.proofs.Ends.{ends-wide}
 use Rattle.augment.specs.Augment.{boundNetwork}
 use Rattle.augment.specs.Rows.{WideRows}
 
@@ -20,14 +20,6 @@ no-minimums n s t tails heads capacities minimums none =
 pub rows-wide : {n : ℕ} {tails heads capacities : List ℕ} → ArcRows n tails heads capacities → WideRows n tails heads capacities
 rows-wide rows =
     record {
-      ends =
-          record {
-            few-nodes = omega (arith, rows .ends .few-nodes);
-            few-arcs = omega (arith, rows .ends .few-arcs);
-            heads-long = rows .ends .heads-long;
-            tail-node = rows .ends .tail-node;
-            head-node = rows .ends .head-node;
-            no-loop = rows .ends .no-loop;
-          };
+      ends = ends-wide (rows .ends);
       capacities-long = rows .capacities-long;
     }

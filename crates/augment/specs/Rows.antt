@@ -1,5 +1,5 @@
 -- What the code asks of the rows that it is lent: for the contracts of the functions that fill chains.
-use Prim.Native.Nat.{ℕ, _≤_, _<_}
+use Prim.Native.Nat.{ℕ, _≤_}
 use mathlib.Core.Path.{_≡_}
 use mathlib.Core.Bool.{Bool, cond}
 use mathlib.Core.List.{List}
@@ -7,6 +7,7 @@ use lib.ListN.{length}
 use Rattle.rows.specs.Row.{Node, atPlace}
 use Rattle.network.specs.Network.{Network, Flow}
 use Rattle.table.specs.Table.{Table, tableOf}
+use Rattle.arcs.specs.Ends.{WideEnds}
 use Rattle.augment.specs.Ways.{Ways}
 use Rattle.augment.specs.Augment.{boundNetwork, waysIn, reaches, augmented}
 
@@ -18,16 +19,7 @@ rowWays tails heads capacities minimums flow = waysIn (boundNetwork 0 0 0 tails 
 abbrev pub endsOf : (n : ℕ) (tails heads capacities : List ℕ) → Table
 endsOf n tails heads capacities = tableOf n 0 0 tails heads capacities
 
--- The ends of arcs among n nodes: a table's, with room for two nodes more, and for two arcs more at each node and two besides.
-pub record WideEnds (n : ℕ) (tails heads : List ℕ) : Type 0 where
-  pub few-nodes : n ≤ 514
-  pub few-arcs : length tails ≤ 5122
-  pub heads-long : length heads ≡ length tails
-  pub tail-node : (k : ℕ) → k < length tails → Node n (atPlace tails k)
-  pub head-node : (k : ℕ) → k < length tails → Node n (atPlace heads k)
-  pub no-loop : (k : ℕ) → k < length tails → atPlace tails k ≡ atPlace heads k → ⊥
-
--- Three rows of such arcs: their ends, and a capacity for each.
+-- Three rows of arcs: their ends, which lists can be made of, and a capacity for each.
 pub record WideRows (n : ℕ) (tails heads capacities : List ℕ) : Type 0 where
   pub ends : WideEnds n tails heads
   pub capacities-long : length capacities ≡ length tails

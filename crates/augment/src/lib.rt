@@ -294,7 +294,7 @@ fn far_at(tails: &[u32], heads: &[u32], i: u32, k: usize) -> u32
 }
 
 // The smaller of two numbers.
-fn lesser(a: u32, b: u32) -> u32
+pub fn lesser(a: u32, b: u32) -> u32
     ensures { λ r. ⌜ r ≡ min a b ⌝ }
 {
     if a <= b {

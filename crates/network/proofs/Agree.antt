@@ -6,7 +6,7 @@ use lib.Dec.{eqb}
 use Rattle.rows.specs.Sum.{only}
 use Rattle.rows.specs.Row.{Node}
 use Rattle.rows.proofs.Sums.{sum-ext}
-use Rattle.network.specs.Network.{Network, inflow, outflow, nearEnd, farEnd}
+use Rattle.network.specs.Network.{Network, Flow, inflow, outflow, nearEnd, farEnd}
 use Rattle.network.proofs.Notions.{Sound, near-end-node, far-end-node, residual-over-ext}
 use Rattle.network.proofs.Steps.{State}
 use Rattle.network.proofs.Facts.{Facts}
@@ -26,6 +26,15 @@ inflow-agree N flow other same i = sum-ext (N .m) _ _ (λ k l. ap (only (eqb (N 
 pub outflow-agree : (N : Network) (flow other : ℕ → ℕ) → ((k : ℕ) → k < N .m → flow k ≡ other k) → (i : ℕ) → outflow N flow i ≡ outflow N other i
 unfolding outflow
 outflow-agree N flow other same i = sum-ext (N .m) _ _ (λ k l. ap (only (eqb (N .tail k) i)) (same k l))
+
+-- A row that agrees with a flow on every arc is one.
+pub flow-agree : (N : Network) (flow other : ℕ → ℕ) → ((k : ℕ) → k < N .m → flow k ≡ other k) → Flow N flow → Flow N other
+flow-agree N flow other same f =
+    record {
+      low = λ k l. omega (arith, f .low k l, same k l);
+      high = λ k l. omega (arith, f .high k l, same k l);
+      kept = λ i inner. sym (inflow-agree N flow other same i) ∙ f .kept i inner ∙ outflow-agree N flow other same i;
+    }
 
 -- The facts hold of both.
 pub facts-agree : (N : Network) → Sound N → (Δ : ℕ) (S U : State) → Agree N S U → Facts N Δ S → Facts N Δ U

@@ -1,11 +1,12 @@
 -- Laws of the code that goes on from a flow.
-use Prim.Native.Nat.{ℕ, zero, suc, _+_, _≤_}
-use mathlib.Core.Path.{_≡_, refl, sym, ap, subst, _∙_}
-use mathlib.Core.List.{List, _∷_, _++_, append-nil}
+use Prim.Native.Nat.{ℕ, _+_, _≤_}
+use mathlib.Core.Path.{_≡_, sym, ap, subst, _∙_}
+use mathlib.Core.List.{List, _++_, append-nil}
 use native.Mathlib.Omega.{arith}
 use lib.ListN.{length, take, drop, replicate, length-replicate, drop-of-length-le}
 use lib.Seq.{take-all, length-take-le}
 use Rattle.rows.specs.Row.{atPlace, cleared}
+use Rattle.rows.proofs.Rows.{zero-at}
 use Rattle.network.specs.Network.{Flow, inflow, outflow}
 use Rattle.table.specs.Table.{Table, arcs, networkOf}
 use Rattle.table.specs.Accepted.{Accepted}
@@ -35,12 +36,7 @@ module _ (t : Table) (ok : Accepted t) (minimums flow : List ℕ) (zeros : minim
   same-network : boundNetwork (t .nodes) (t .source) (t .sink) (t .tails) (t .heads) (t .capacities) minimums ≡ networkOf t
   same-network =
       no-minimums (t .nodes) (t .source) (t .sink) (t .tails) (t .heads) (t .capacities) minimums
-      (λ k. ap (λ row. atPlace row k) zeros ∙ none (arcs t) k)
-    where
-      none : (m k : ℕ) → atPlace (replicate m 0) k ≡ 0
-      none zero k = refl
-      none (suc m) zero = refl
-      none (suc m) (suc k) = none m k
+      (λ k. ap (λ row. atPlace row k) zeros ∙ zero-at (arcs t) k)
 
   -- What `go_on` asks.
   pub ready-rows : length flow ≡ arcs t → Flow (networkOf t) (atPlace flow) → Ready (t .nodes) (t .source) (t .sink) (t .tails) (t .heads) (t .capacities) minimums flow
@@ -96,11 +92,3 @@ went-longer t stamp flow side work r flow-left side-left work-left room e =
     let past : length (take (arcs t) flow) ≤ arcs t = omega (arith, length-take-le (arcs t) flow room) in
     ap (λ (l : Left). left (l .answer) (l .flow ++ drop (arcs t) flow) (l .side) (l .work)) e
     ∙ rw (drop-of-length-le (take (arcs t) flow) past, append-nil, take-all (arcs t) (take (arcs t) flow) past)
-
--- ---- the part of the rows that is lent
-
--- The first m of n zeros.
-pub zeros-taken : (m n : ℕ) → m ≤ n → _≡_ {A = List ℕ} (take m (replicate n 0)) (replicate m 0)
-zeros-taken zero n l = refl
-zeros-taken (suc m) zero l = absurd (omega arith)
-zeros-taken (suc m) (suc n) l = ap (λ (row : List ℕ). 0 ∷ row) (zeros-taken m n (omega arith))

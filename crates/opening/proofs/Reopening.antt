@@ -7,6 +7,7 @@ use lib.ListN.{length, set, take, drop, replicate}
 use lib.Seq.{take-at, getD-take, length-take-le}
 use Rattle.rows.specs.Row.{atPlace}
 use Rattle.network.specs.Network.{Flow}
+use Rattle.network.proofs.Agree.{flow-agree}
 use Rattle.table.specs.Table.{Table, tableOf, arcs, networkOf}
 use Rattle.table.specs.Accepted.{Accepted}
 use Rattle.table.specs.Checks.{isFine, orElse}
@@ -25,7 +26,7 @@ use Rattle.augment.specs.Augment.{settled}
 use Rattle.opening.specs.Maximum.{MaximumFlow}
 use Rattle.opening.specs.Opening.{opened, changeVerdict, openingVerdict, wentOn, openingAs, opening, Reopens}
 use Rattle.opening.specs.Steps.{Opens}
-use Rattle.opening.proofs.Opened.{flow-agree, as-many, opened-accepted, opened-flow}
+use Rattle.opening.proofs.Opened.{as-many, opened-accepted, opened-flow}
 use Rattle.opening.proofs.Fresh.{last-best, last-chains, last-long, fresh-value, fresh-side}
 use Rattle.opening.proofs.Going.{went-longer}
 use Rattle.opening.proofs.Verdicts.{change-opens, fine-opens, notmax-not}

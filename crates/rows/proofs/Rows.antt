@@ -4,7 +4,7 @@ use mathlib.Core.Path.{_≡_, refl, ap, sym, _∙_, fun-ext}
 use mathlib.Core.List.{List, [], _∷_, _++_, append-assoc, append-nil}
 use native.Mathlib.Numerals.{add-one}
 use native.Mathlib.Omega.{arith}
-use lib.ListN.{length, getD, set, drop, replicate, length-set, length-append, length-replicate, getD-replicate, List·getD-append, drop-of-length-le}
+use lib.ListN.{length, getD, set, take, drop, replicate, length-set, length-append, length-replicate, getD-replicate, List·getD-append, drop-of-length-le}
 use lib.Seq.{getD-at, getD-set-same, getD-set-other, ext-getD, drop-cons, set-at}
 use Rattle.rows.specs.Row.{Node, atPlace, atNode, byPlace, byNode}
 use Rattle.rows.proofs.Functions.{put}
@@ -74,6 +74,18 @@ places-same f g m each = row-is g m (byPlace f m) (length-places f m) (λ k l. a
 -- A row of zeros.
 pub zeros-by-place : (m : ℕ) → replicate m 0 ≡ byPlace (λ k. 0) m
 zeros-by-place m = row-is (λ k. 0) m (replicate m 0) (length-replicate m 0) (λ k l. getD-replicate m k 0 0 l)
+
+-- It holds 0 at every place, its own and later ones.
+pub zero-at : (m k : ℕ) → atPlace (replicate m 0) k ≡ 0
+zero-at zero k = refl
+zero-at (suc m) zero = refl
+zero-at (suc m) (suc k) = zero-at m k
+
+-- The first m of n zeros.
+pub zeros-taken : (m n : ℕ) → m ≤ n → _≡_ {A = List ℕ} (take m (replicate n 0)) (replicate m 0)
+zeros-taken zero n l = refl
+zeros-taken (suc m) zero l = absurd (omega arith)
+zeros-taken (suc m) (suc n) l = ap (λ (row : List ℕ). 0 ∷ row) (zeros-taken m n (omega arith))
 
 -- A store of f k at place k, where the places below k hold f, makes one place more.
 pub fill-place : (f : ℕ → ℕ) (k x : ℕ) (old : List ℕ) → k < length old → x ≡ f k

@@ -140,7 +140,7 @@ pub fn scale(phases: u32) -> u64
 }
 
 // What the first places of a flow row take along arcs with end i: `ends` is the row of tails or of heads.
-fn sum_at(ends: &[u32], flow: &[u32], i: u32) -> u64
+pub fn sum_at(ends: &[u32], flow: &[u32], i: u32) -> u64
     requires { ⌜ (length (now ends) ≤ length (now flow)) × (length (now ends) ≤ 4096) ⌝ }
     ensures { λ r. ⌜ r ≡ sumAt (now (ends .entry)) (now (flow .entry)) i (length (now (ends .entry))) ⌝ }
 {

@@ -1,5 +1,6 @@
 -- `open_listed` meets its contract: the lists, the verdict on the change, then its refusal or the opened table.
 use Rattle.table.specs.Table.{tableOf, Table}
+use Rattle.arcs.proofs.Ends.{ends-wide}
 use Rattle.opening.proofs.Reopening.{refused-change, fine-change, change-asks}
 use borrow.Author.Needs.{needs}
 use Rattle.opening.proofs.open_listed.Statement.{statement}
@@ -14,7 +15,7 @@ module _ (c : tie.After-change-verdict) where
   table = tableOf (begun .args .n) (begun .args .s) (begun .args .t) (begun .args .tails .now) (begun .args .heads .now) (begun .args .capacities .now)
 
 fill-work-requires : tie.Need-fill-work-requires
-fill-work-requires c κs = let start = c .before .before .before .before .before .before .before .before in (start .pre .0 .rows .ends, start .pre .1 .1)
+fill-work-requires c κs = let start = c .before .before .before .before .before .before .before .before in (ends-wide (start .pre .0 .rows .ends), start .pre .1 .1)
 
 change-verdict-requires : tie.Need-change-verdict-requires
 change-verdict-requires c κs =

@@ -5,7 +5,7 @@ use native.Mathlib.Omega.{arith}
 use lib.ListN.{length}
 use lib.Seq.{length-take-le}
 use Rattle.table.specs.Table.{tableOf}
-use Rattle.opening.proofs.Going.{zeros-taken}
+use Rattle.rows.proofs.Rows.{zeros-taken}
 use Rattle.opening.proofs.Reopening.{opens-part, went-opened}
 use borrow.Author.Needs.{needs}
 use Rattle.opening.proofs.open_table.Statement.{statement}

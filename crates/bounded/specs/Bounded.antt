@@ -1,0 +1,79 @@
+-- Document 02, CR 11: tables whose arcs have a least flow, their flows, the signed value and a cut's capacity, and a flow of greatest value.
+use Prim.Native.Nat.{ℕ, _≤_, _<_}
+use mathlib.Core.Path.{_≡_}
+use mathlib.Core.Bool.{Bool, true}
+use mathlib.Core.List.{List}
+use lib.ListN.{length}
+use lib.IntN.{ℤ, pos, _-ℤ_, natAbs}
+use lib.Signed.{_≤ℤ_}
+use Rattle.rows.specs.Row.{Node, atPlace}
+use Rattle.network.specs.Network.{Network, Flow, Cut, Reached, inflow, outflow, leaving, entering}
+use Rattle.table.specs.Table.{Table, tableOf, capacity}
+use Rattle.table.specs.Accepted.{ArcRows}
+use Rattle.reach.specs.Side.{marked, sideFrom}
+use Rattle.augment.specs.Augment.{boundNetwork}
+
+-- A table with a fourth row: the least flow of each arc.
+pub record BoundedTable : Type 0 where
+  pub table : Table
+  pub minimums : List ℕ
+
+-- The bounded table of these numbers and rows.
+abbrev pub boundedOf : (n s t : ℕ) (tails heads capacities minimums : List ℕ) → BoundedTable
+boundedOf n s t tails heads capacities minimums = record { table = tableOf n s t tails heads capacities; minimums = minimums }
+
+-- The least flow of the arc at place k.
+abbrev pub minimum : BoundedTable → ℕ → ℕ
+minimum b k = atPlace (b .minimums) k
+
+-- The bounded table as a network. The residual from head to tail is flow less minimum.
+abbrev pub boundedNetwork : BoundedTable → Network
+boundedNetwork b =
+    boundNetwork (b .table .nodes) (b .table .source) (b .table .sink) (b .table .tails) (b .table .heads) (b .table .capacities) (b .minimums)
+
+-- Four rows of arcs among n nodes: a table's three within its limits, with a minimum for each arc that is not above its capacity.
+pub record BoundedRows (n : ℕ) (tails heads capacities minimums : List ℕ) : Type 0 where
+  pub arcs : ArcRows n tails heads capacities
+  pub minimums-long : length minimums ≡ length capacities
+  pub within : (k : ℕ) → k < length capacities → atPlace minimums k ≤ atPlace capacities k
+
+-- An accepted bounded table: an accepted table, with a minimum for each arc that is not above its capacity.
+pub record AcceptedBounded (b : BoundedTable) : Type 0 where
+  pub source : Node (b .table .nodes) (b .table .source)
+  pub sink : Node (b .table .nodes) (b .table .sink)
+  pub apart : b .table .source ≡ b .table .sink → ⊥
+  pub rows : BoundedRows (b .table .nodes) (b .table .tails) (b .table .heads) (b .table .capacities) (b .minimums)
+
+-- A flow that keeps every arc between its two numbers; what enters a node other than source and sink leaves it.
+abbrev pub BoundedFlow : BoundedTable → (ℕ → ℕ) → Type 0
+BoundedFlow b flow = Flow (boundedNetwork b) flow
+
+-- No flow keeps all arcs between their numbers.
+abbrev pub NoFlow : BoundedTable → Type 0
+NoFlow b = (flow : ℕ → ℕ) → BoundedFlow b flow → ⊥
+
+-- The value of a flow, signed: what leaves the source less what enters it.
+abbrev pub valueOf : BoundedTable → (ℕ → ℕ) → ℤ
+valueOf b flow = pos (outflow (boundedNetwork b) flow (b .table .source)) -ℤ pos (inflow (boundedNetwork b) flow (b .table .source))
+
+-- A cut's capacity, signed: the capacities leaving the side less the minimums entering it.
+abbrev pub cutCapacity : BoundedTable → (ℕ → Bool) → ℤ
+cutCapacity b X = pos (leaving (boundedNetwork b) X (capacity (b .table))) -ℤ pos (entering (boundedNetwork b) X (minimum b))
+
+-- The side of a flow row: 1 on the nodes reachable from the source over residual arcs and 0 elsewhere.
+abbrev pub boundedSide : BoundedTable → List ℕ → List ℕ
+boundedSide b flow = sideFrom (boundedNetwork b) (atPlace flow)
+
+-- Demand 2 as CR 11 reads it: the flow keeps every arc between its two numbers, and none that does has a larger value; the value is the net
+-- flow out of the source and the capacity of the side's cut, exact to 4,096,000,000 either way; no cut has a smaller capacity; the side is
+-- exactly what the source reaches over residual arcs, and lies inside every cut of that capacity.
+pub record GreatestBounded (b : BoundedTable) (flow side : List ℕ) (value : ℤ) : Type 0 where
+  pub keeps : BoundedFlow b (atPlace flow)
+  pub net : value ≡ valueOf b (atPlace flow)
+  pub greatest : (other : ℕ → ℕ) → BoundedFlow b other → valueOf b other ≤ℤ value
+  pub range : natAbs value ≤ 4096000000
+  pub is-cut : Cut (boundedNetwork b) (marked side)
+  pub cut : value ≡ cutCapacity b (marked side)
+  pub least : (X : ℕ → Bool) → Cut (boundedNetwork b) X → value ≤ℤ cutCapacity b X
+  pub reached : Reached (boundedNetwork b) (atPlace flow) (marked side)
+  pub smallest : (X : ℕ → Bool) → Cut (boundedNetwork b) X → cutCapacity b X ≡ value → (i : ℕ) → marked side i ≡ true → X i ≡ true
