@@ -29,7 +29,7 @@ pub struct Comparison {
 }
 
 /// From so many cases on, a comparison must have seen all that it is for.
-pub const ENOUGH: u64 = 5_000;
+pub const ENOUGH: u64 = 3_000;
 
 /// Every so many texts, one is compared with its twin of other separators.
 const TWINS_EVERY: u64 = 8;
