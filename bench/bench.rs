@@ -37,7 +37,7 @@ mod proved {
         refusal: u32,
         place: u32,
         stamp: u32,
-        value: u64,
+        value: i64,
         scale: u64,
         phases: u32,
         saturating: u64,
@@ -59,6 +59,8 @@ mod proved {
             heads_length: usize,
             capacities: *const u32,
             capacities_length: usize,
+            minimums: *const u32,
+            minimums_length: usize,
             flow: *mut u32,
             flow_length: usize,
             side: *mut u8,
@@ -71,13 +73,14 @@ mod proved {
     /// Solves by the proved solver.
     #[rustfmt::skip]
     pub fn solve(table: &OwnTable, rows: &mut Rows) -> Option<Answer> {
-        let OwnTable { n, s, t, tails, heads, capacities } = table;
+        let OwnTable { n, s, t, tails, heads, capacities, minimums } = table;
         let answer = unsafe {
             jorrabide_solve(
                 *n, *s, *t, 0,
                 tails.as_ptr(), tails.len(),
                 heads.as_ptr(), heads.len(),
                 capacities.as_ptr(), capacities.len(),
+                minimums.as_ptr(), minimums.len(),
                 rows.flow.as_mut_ptr(), rows.flow.len(),
                 rows.side.as_mut_ptr(), rows.side.len(),
                 rows.work.as_mut_ptr(), rows.work.len(),
@@ -123,7 +126,7 @@ extern "C" {
 /// Solves by the yardstick: fills the flow row, and gives the three counts.
 #[rustfmt::skip]
 fn solve_yardstick(table: &OwnTable, flow: &mut [u32]) -> [u64; 3] {
-    let OwnTable { n, s, t, tails, heads, capacities } = table;
+    let OwnTable { n, s, t, tails, heads, capacities, minimums } = table;
     let mut counts = [0; 3];
     unsafe {
         yardstick(

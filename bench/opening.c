@@ -10,6 +10,7 @@
 enum { MOST_NODES = 512, MOST_ARCS = 8 * MOST_NODES, MOST_WORK = 4 * MOST_NODES + 2 * MOST_ARCS + 1, TURNS = 5, CHAIRS = 8 };
 
 static uint32_t tails[MOST_ARCS], heads[MOST_ARCS], capacities[MOST_ARCS], work[MOST_WORK];
+static const uint32_t none[MOST_ARCS];
 static uint32_t old_flow[MOST_ARCS], flow[MOST_ARCS], fresh_flow[MOST_ARCS];
 static uint8_t old_side[MOST_NODES], side[MOST_NODES], fresh_side[MOST_NODES];
 static uint32_t nodes, arcs, state;
@@ -93,9 +94,9 @@ static void must(int holds, const char *what) {
 }
 
 /* Solves into these rows; the value. */
-static uint64_t solve(uint32_t *into, uint8_t *marks) {
+static int64_t solve(uint32_t *into, uint8_t *marks) {
     struct jorrabide_answer r =
-        jorrabide_solve(nodes, 1, nodes, 7, tails, arcs, heads, arcs, capacities, arcs, into, arcs, marks, nodes, work, MOST_WORK);
+        jorrabide_solve(nodes, 1, nodes, 7, tails, arcs, heads, arcs, capacities, arcs, none, arcs, into, arcs, marks, nodes, work, MOST_WORK);
     must(r.refusal == 0, "solving refuses");
     return r.value;
 }
@@ -106,16 +107,16 @@ static uint64_t gained;
 static int openings;
 
 /* Opens the arc at a place of the solved table, and solves the new table afresh. */
-static void open_place(uint32_t place, uint32_t capacity, uint64_t old_value) {
+static void open_place(uint32_t place, uint32_t capacity, int64_t old_value) {
     uint32_t before = capacities[place];
     double opened = 1e18, fresh = 1e18;
-    uint64_t value = 0, fresh_value = 0;
+    int64_t value = 0, fresh_value = 0;
     for (int turn = 0; turn < TURNS; turn++) {
         memcpy(flow, old_flow, sizeof flow);
         memcpy(side, old_side, sizeof side);
         double began = now();
         struct jorrabide_answer r = jorrabide_open(
-            nodes, 1, nodes, 7, tails, arcs, heads, arcs, capacities, arcs, place, capacity, flow, arcs, side, nodes, work, MOST_WORK);
+            nodes, 1, nodes, 7, tails, arcs, heads, arcs, capacities, arcs, none, arcs, place, capacity, flow, arcs, side, nodes, work, MOST_WORK);
         double took = now() - began;
         must(r.refusal == 0 && r.stamp == 8, "opening refuses");
         value = r.value;
@@ -157,7 +158,7 @@ int main(void) {
     for (nodes = 64; nodes <= MOST_NODES; nodes *= 2) {
         arcs = 8 * nodes;
         make_week();
-        uint64_t value = solve(old_flow, old_side);
+        int64_t value = solve(old_flow, old_side);
         for (uint32_t k = 0; k < arcs && openings < CHAIRS; k++)
             if (heads[k] == nodes && old_side[tails[k] - 1] == 1) open_place(k, capacities[k] + 12, value);
         report("week");

@@ -15,7 +15,7 @@ struct jorrabide_answer {
     uint32_t refusal;
     uint32_t place;
     uint32_t stamp;
-    uint64_t value;
+    int64_t value;
     uint64_t scale;
     uint32_t phases;
     uint64_t saturating;
@@ -33,13 +33,15 @@ struct jorrabide_reading {
     uint32_t crossing;
 };
 
-/* Solves the table of n nodes, source s, sink t and three rows of arcs. The flow row needs as many numbers as there are arcs,
-   the side row n marks, the work row 4n + 2m + 1 numbers. */
+/* Solves the table of n nodes, source s, sink t and four rows of arcs; a minimum is the least flow of its arc, 0 where there is none. The flow
+   row needs as many numbers as there are arcs, the side row n marks, the work row 4n + 2m + 1 numbers. The value is what leaves the source less
+   what enters it: minimums can force it below 0. With a minimum above 0 the scale, the phases and the counts are 0. */
 struct jorrabide_answer jorrabide_solve(
     uint32_t n, uint32_t s, uint32_t t, uint32_t stamp,
     const uint32_t *tails, size_t tails_length,
     const uint32_t *heads, size_t heads_length,
     const uint32_t *capacities, size_t capacities_length,
+    const uint32_t *minimums, size_t minimums_length,
     uint32_t *flow, size_t flow_length,
     uint8_t *side, size_t side_length,
     uint32_t *work, size_t work_length);
@@ -50,6 +52,7 @@ struct jorrabide_reading jorrabide_read_place(
     const uint32_t *tails, size_t tails_length,
     const uint32_t *heads, size_t heads_length,
     const uint32_t *capacities, size_t capacities_length,
+    const uint32_t *minimums, size_t minimums_length,
     uint32_t answer_stamp,
     const uint32_t *flow, size_t flow_length,
     const uint8_t *side, size_t side_length,
@@ -57,12 +60,13 @@ struct jorrabide_reading jorrabide_read_place(
 
 /* Opens the arc at a place of the table to a new capacity, not below the old: goes on from the flow row, which must hold a maximum flow
    of the table, and fills flow and side row as for the new table. The stamp comes back raised by one, with 0 for the scale, the phases and the
-   counts. The capacities are not written: put the new one in its place yourself, and give the table the new stamp. Rows as for solving. */
+   counts. The capacities are not written: put the new one in its place yourself, and give the table the new stamp. Rows as for solving; no minimum may be above 0. */
 struct jorrabide_answer jorrabide_open(
     uint32_t n, uint32_t s, uint32_t t, uint32_t stamp,
     const uint32_t *tails, size_t tails_length,
     const uint32_t *heads, size_t heads_length,
     const uint32_t *capacities, size_t capacities_length,
+    const uint32_t *minimums, size_t minimums_length,
     uint32_t place, uint32_t capacity,
     uint32_t *flow, size_t flow_length,
     uint8_t *side, size_t side_length,

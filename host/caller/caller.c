@@ -2,40 +2,76 @@
    what came back and every lent row. Numbers are 32 bits and little-endian; marks, texts and what is served are bytes.
 
    A call: kind (1 solve, 2 solve arc records, 3 read by place, 4 read a text, 5 serve a text, 6 open a place), n, s, t,
-   the table's stamp, the answer's stamp, the place, its new capacity, the lengths of the eight rows (tails, heads,
-   capacities, flow, side, work, text, out), then the rows. Numbers that a call doesn't have are 0, rows that it doesn't
-   have are empty. For arc records the first three rows have one length; the records are made of them here, and the rows
-   of the records afterwards.
+   the table's stamp, the answer's stamp, the place, its new capacity, the lengths of the nine rows (tails, heads,
+   capacities, minimums, flow, side, work, text, out), then the rows. Numbers that a call doesn't have are 0, rows that
+   it doesn't have are empty. For arc records the first four rows have one length; the records are made of them here,
+   and the rows of the records afterwards.
    What is written: nine 64-bit numbers (the answer's nine, the reading's five, the text's six or where the served bytes
-   end, then 0), then the eight rows, then 1 if nothing was written beside them. */
+   end, then 0), then the nine rows, then 1 if nothing was written beside them. */
 #include <stdint.h>
 #include <stdlib.h>
 #include <string.h>
 #include <unistd.h>
 
-#include "jorrabide.h"
-
 enum { SOLVE = 1, SOLVE_RECORDS, READ_PLACE, READ_TEXT, SERVE, OPEN };
-enum { TAILS, HEADS, CAPACITIES, FLOW, SIDE, WORK, TEXT, OUT, ROWS };
+enum { TAILS, HEADS, CAPACITIES, MINIMUMS, FLOW, SIDE, WORK, TEXT, OUT, ROWS };
 enum { KIND, NODES, SOURCE, SINK, STAMP, ANSWER_STAMP, PLACE, CAPACITY, LENGTHS, HEADER = LENGTHS + ROWS };
-enum { FENCE = 64, FENCE_BYTE = 0xA5 };
+enum { NUMBERS = 9, FENCE = 64, FENCE_BYTE = 0xA5 };
 
-/* An arc record, and the entry over a row of them, which is in no header: it is not one of the calls for C. */
-struct arc {
-    uint32_t tail, head, capacity;
+/* The calls as they are compared. Each row is lent by where it begins and its length. */
+struct jorrabide_answer {
+    uint32_t refusal, place, stamp;
+    int64_t value;
+    uint64_t scale;
+    uint32_t phases;
+    uint64_t saturating, nonsaturating, relabels;
 };
-struct jorrabide_answer solve_records(
-    uint32_t n, uint32_t s, uint32_t t, uint32_t stamp, const struct arc *arcs, size_t arcs_length,
-    uint32_t *flow, size_t flow_length, uint8_t *side, size_t side_length, uint32_t *work, size_t work_length);
-
-/* Reading a text into three arc rows, and serving one, which are in no header either. */
+struct jorrabide_reading {
+    uint32_t refusal, place, flow, capacity, crossing;
+};
 struct jorrabide_text {
     uint32_t refusal, place, n, m, s, t;
 };
+
+struct jorrabide_answer jorrabide_solve(
+    uint32_t n, uint32_t s, uint32_t t, uint32_t stamp, const uint32_t *tails, size_t, const uint32_t *heads, size_t,
+    const uint32_t *capacities, size_t, const uint32_t *minimums, size_t,
+    uint32_t *flow, size_t, uint8_t *side, size_t, uint32_t *work, size_t);
+struct jorrabide_reading jorrabide_read_place(
+    uint32_t n, uint32_t s, uint32_t t, uint32_t stamp, const uint32_t *tails, size_t, const uint32_t *heads, size_t,
+    const uint32_t *capacities, size_t, const uint32_t *minimums, size_t, uint32_t answer_stamp,
+    const uint32_t *flow, size_t, const uint8_t *side, size_t, uint32_t place);
+struct jorrabide_answer jorrabide_open(
+    uint32_t n, uint32_t s, uint32_t t, uint32_t stamp, const uint32_t *tails, size_t, const uint32_t *heads, size_t,
+    const uint32_t *capacities, size_t, const uint32_t *minimums, size_t, uint32_t place, uint32_t capacity,
+    uint32_t *flow, size_t, uint8_t *side, size_t, uint32_t *work, size_t);
+
+/* An arc record, and the entry over a row of them, which is not one of the calls for C. */
+struct arc {
+    uint32_t tail, head, capacity, minimum;
+};
+struct jorrabide_answer solve_records(
+    uint32_t n, uint32_t s, uint32_t t, uint32_t stamp, const struct arc *arcs, size_t,
+    uint32_t *flow, size_t, uint8_t *side, size_t, uint32_t *work, size_t);
+
+/* Reading a text into four arc rows, and serving one, which are not among the calls for C either. */
 struct jorrabide_text jorrabide_read_text(
-    const uint8_t *text, size_t text_length, uint32_t *tails, size_t tails_length,
-    uint32_t *heads, size_t heads_length, uint32_t *capacities, size_t capacities_length);
-size_t jorrabide_serve(const uint8_t *text, size_t text_length, uint8_t *out, size_t out_length);
+    const uint8_t *text, size_t, uint32_t *tails, size_t, uint32_t *heads, size_t, uint32_t *capacities, size_t,
+    uint32_t *minimums, size_t);
+size_t jorrabide_serve(const uint8_t *text, size_t, uint8_t *out, size_t);
+
+/* A row as the calls take it: where it begins and its length. */
+#define LENT_NUMBERS(row) numbers(row), (row).length
+#define LENT_BYTES(row) bytes(row), (row).length
+
+/* The arguments that most calls begin with: the table's numbers, and its four rows. */
+#define TABLE_NUMBERS call[NODES], call[SOURCE], call[SINK], call[STAMP]
+#define TABLE_ROWS                                                                        \
+    LENT_NUMBERS(rows[TAILS]), LENT_NUMBERS(rows[HEADS]), LENT_NUMBERS(rows[CAPACITIES]), \
+        LENT_NUMBERS(rows[MINIMUMS])
+
+/* The rows that solving writes. */
+#define SOLVING_ROWS LENT_NUMBERS(rows[FLOW]), LENT_BYTES(rows[SIDE]), LENT_NUMBERS(rows[WORK])
 
 struct row {
     unsigned char *memory;
@@ -99,38 +135,32 @@ static int is_fenced(struct row row) {
 
 /* An answer's nine numbers. */
 static void put_answer(struct jorrabide_answer answer, uint64_t *result) {
-    const uint64_t fields[9] = {answer.refusal, answer.place, answer.stamp, answer.value, answer.scale,
+    const uint64_t fields[9] = {answer.refusal, answer.place, answer.stamp, (uint64_t)answer.value, answer.scale,
                                 answer.phases, answer.saturating, answer.nonsaturating, answer.relabels};
     memcpy(result, fields, sizeof fields);
 }
 
 /* Makes the call of solving. */
 static void call_solve(const uint32_t *call, const struct row *rows, uint64_t *result) {
-    put_answer(jorrabide_solve(
-                   call[NODES], call[SOURCE], call[SINK], call[STAMP],
-                   numbers(rows[TAILS]), rows[TAILS].length, numbers(rows[HEADS]), rows[HEADS].length,
-                   numbers(rows[CAPACITIES]), rows[CAPACITIES].length, numbers(rows[FLOW]), rows[FLOW].length,
-                   bytes(rows[SIDE]), rows[SIDE].length, numbers(rows[WORK]), rows[WORK].length),
-               result);
+    put_answer(jorrabide_solve(TABLE_NUMBERS, TABLE_ROWS, SOLVING_ROWS), result);
 }
 
 /* Makes the call of solving a row of arc records. */
 static void call_solve_records(const uint32_t *call, const struct row *rows, uint64_t *result) {
     size_t length = rows[TAILS].length;
-    if (rows[HEADS].length != length || rows[CAPACITIES].length != length) exit(1);
+    for (int k = HEADS; k <= MINIMUMS; k++)
+        if (rows[k].length != length) exit(1);
     struct row row = new_row(length, sizeof(struct arc));
     struct arc *arcs = (struct arc *)numbers(row);
     for (size_t k = 0; k < length; k++)
-        arcs[k] = (struct arc){numbers(rows[TAILS])[k], numbers(rows[HEADS])[k], numbers(rows[CAPACITIES])[k]};
-    put_answer(solve_records(
-                   call[NODES], call[SOURCE], call[SINK], call[STAMP], arcs, length,
-                   numbers(rows[FLOW]), rows[FLOW].length, bytes(rows[SIDE]), rows[SIDE].length,
-                   numbers(rows[WORK]), rows[WORK].length),
-               result);
+        arcs[k] = (struct arc){numbers(rows[TAILS])[k], numbers(rows[HEADS])[k], numbers(rows[CAPACITIES])[k],
+                               numbers(rows[MINIMUMS])[k]};
+    put_answer(solve_records(TABLE_NUMBERS, arcs, length, SOLVING_ROWS), result);
     for (size_t k = 0; k < length; k++) {
         numbers(rows[TAILS])[k] = arcs[k].tail;
         numbers(rows[HEADS])[k] = arcs[k].head;
         numbers(rows[CAPACITIES])[k] = arcs[k].capacity;
+        numbers(rows[MINIMUMS])[k] = arcs[k].minimum;
     }
     if (!is_fenced(row)) exit(1);
     free(row.memory);
@@ -139,37 +169,26 @@ static void call_solve_records(const uint32_t *call, const struct row *rows, uin
 /* Makes the call of reading by place. */
 static void call_read_place(const uint32_t *call, const struct row *rows, uint64_t *result) {
     struct jorrabide_reading reading = jorrabide_read_place(
-        call[NODES], call[SOURCE], call[SINK], call[STAMP],
-        numbers(rows[TAILS]), rows[TAILS].length, numbers(rows[HEADS]), rows[HEADS].length,
-        numbers(rows[CAPACITIES]), rows[CAPACITIES].length, call[ANSWER_STAMP],
-        numbers(rows[FLOW]), rows[FLOW].length, bytes(rows[SIDE]), rows[SIDE].length, call[PLACE]);
-    const uint64_t fields[9] = {reading.refusal, reading.place, reading.flow, reading.capacity, reading.crossing};
+        TABLE_NUMBERS, TABLE_ROWS, call[ANSWER_STAMP], LENT_NUMBERS(rows[FLOW]), LENT_BYTES(rows[SIDE]), call[PLACE]);
+    const uint64_t fields[5] = {reading.refusal, reading.place, reading.flow, reading.capacity, reading.crossing};
     memcpy(result, fields, sizeof fields);
 }
 
 /* Makes the call of reading a text. */
 static void call_read_text(const struct row *rows, uint64_t *result) {
-    struct jorrabide_text text = jorrabide_read_text(
-        bytes(rows[TEXT]), rows[TEXT].length, numbers(rows[TAILS]), rows[TAILS].length,
-        numbers(rows[HEADS]), rows[HEADS].length, numbers(rows[CAPACITIES]), rows[CAPACITIES].length);
-    const uint64_t fields[9] = {text.refusal, text.place, text.n, text.m, text.s, text.t};
+    struct jorrabide_text text = jorrabide_read_text(LENT_BYTES(rows[TEXT]), TABLE_ROWS);
+    const uint64_t fields[6] = {text.refusal, text.place, text.n, text.m, text.s, text.t};
     memcpy(result, fields, sizeof fields);
 }
 
 /* Makes the call of serving a text. */
 static void call_serve(const struct row *rows, uint64_t *result) {
-    result[0] = jorrabide_serve(bytes(rows[TEXT]), rows[TEXT].length, bytes(rows[OUT]), rows[OUT].length);
+    result[0] = jorrabide_serve(LENT_BYTES(rows[TEXT]), LENT_BYTES(rows[OUT]));
 }
 
 /* Makes the call of opening a place. */
 static void call_open(const uint32_t *call, const struct row *rows, uint64_t *result) {
-    put_answer(jorrabide_open(
-                   call[NODES], call[SOURCE], call[SINK], call[STAMP],
-                   numbers(rows[TAILS]), rows[TAILS].length, numbers(rows[HEADS]), rows[HEADS].length,
-                   numbers(rows[CAPACITIES]), rows[CAPACITIES].length, call[PLACE], call[CAPACITY],
-                   numbers(rows[FLOW]), rows[FLOW].length, bytes(rows[SIDE]), rows[SIDE].length,
-                   numbers(rows[WORK]), rows[WORK].length),
-               result);
+    put_answer(jorrabide_open(TABLE_NUMBERS, TABLE_ROWS, call[PLACE], call[CAPACITY], SOLVING_ROWS), result);
 }
 
 int main(void) {
@@ -177,7 +196,7 @@ int main(void) {
     while (read_all(call, sizeof call)) {
         struct row rows[ROWS];
         for (int k = 0; k < ROWS; k++) rows[k] = read_row(call[LENGTHS + k], width(k));
-        uint64_t result[9] = {0};
+        uint64_t result[NUMBERS] = {0};
         switch (call[KIND]) {
             case SOLVE: call_solve(call, rows, result); break;
             case SOLVE_RECORDS: call_solve_records(call, rows, result); break;

@@ -1,7 +1,8 @@
 //! The families of seeded tables, built from docs/FAMILIES.md.
 
+use crate::compare::caller::{Call, Kind};
 use crate::compare::tables::OwnTable;
-use crate::solve::{solve, work_need};
+use crate::solve::work_need;
 
 /// The families, in the order of their numbers.
 #[derive(Clone, Copy, PartialEq, Eq, Debug)]
@@ -142,7 +143,7 @@ fn seesaw(m: u32, k: u32) -> Arc {
 }
 
 impl Family {
-    /// The family's name as it is printed.
+    /// The family's name.
     pub fn word(self) -> String {
         format!("{self:?}").to_lowercase()
     }
@@ -179,44 +180,27 @@ impl Family {
     }
 }
 
-/// The checksum of numbers.
-pub fn checksum(numbers: impl Iterator<Item = u32>) -> u32 {
-    numbers.fold(0, |sum: u32, number| {
-        sum.wrapping_mul(31).wrapping_add(number).wrapping_add(1)
-    })
+/// The call of solving a family's table, in rows of sevens that are longer than they must be.
+fn solving(family: Family, n: u32, m: u32) -> Call {
+    let table = family.table(n, m);
+    let work = work_need(&table.lent()) as usize;
+    Call {
+        stamp: n,
+        flow: vec![7; m as usize + 1],
+        side: vec![7; n as usize + 1],
+        work: vec![7; work + 1],
+        ..Call::of(Kind::Solve, table)
+    }
 }
 
-/// The line that is printed of a family's table.
-pub fn line(family: Family, n: u32, m: u32) -> String {
-    let own = family.table(n, m);
-    let table = own.lent();
-    let mut flow = vec![0; m as usize];
-    let mut side = vec![0; n as usize];
-    let mut work = vec![0; work_need(&table) as usize];
-    let answer = solve(&table, 0, &mut flow, &mut side, &mut work);
-    assert_eq!(answer.refusal, 0, "a family's table is accepted");
-    format!(
-        "{} {n} {m} {} {} {} {} {} {} {} {}\n",
-        family.word(),
-        answer.value,
-        answer.scale,
-        answer.phases,
-        answer.saturating,
-        answer.nonsaturating,
-        answer.relabels,
-        checksum(flow.into_iter()),
-        checksum(side.into_iter().map(u32::from)),
-    )
-}
-
-/// The lines of all families, small or at full size.
-pub fn lines(full: bool) -> String {
+/// The calls of solving all families' tables, small or at full size, each with its name and sizes.
+pub fn calls(full: bool) -> Vec<(String, Call)> {
     let sizes: &[(u32, u32)] = if full { &[(512, 4096)] } else { &[(8, 24), (64, 512)] };
-    let mut lines = String::new();
+    let mut calls = Vec::new();
     for (n, m) in sizes {
         for family in FAMILIES {
-            lines.push_str(&line(family, *n, *m));
+            calls.push((format!("{} {n} {m}", family.word()), solving(family, *n, *m)));
         }
     }
-    lines
+    calls
 }

@@ -2,6 +2,7 @@
 //! programs answer, and compares them with itself on random and damaged inputs. Requests of document 02 are added as they land.
 
 pub mod boundaries;
+pub mod bounded;
 pub mod compare;
 pub mod desk;
 pub mod families;

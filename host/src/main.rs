@@ -1,12 +1,14 @@
 //! The command line of the judge.
 
 use judge::boundaries;
+use judge::compare::caller::Call;
 use judge::compare::texts::random_text;
 use judge::compare::{
-    compare_calls, compare_texts, wanted_of_texts, Calls, Comparison, Seen, CALLS, ENOUGH, OPENINGS, READINGS,
+    compare_calls, compare_named, compare_texts, wanted_of_texts, Calls, Comparison, Seen, CALLS, ENOUGH, OPENINGS,
+    READINGS,
 };
 use judge::desk::desk;
-use judge::families::{lines, FAMILIES};
+use judge::families::{self, FAMILIES};
 use std::io::{self, Read, Write};
 use std::path::Path;
 use std::process::ExitCode;
@@ -14,8 +16,8 @@ use std::process::ExitCode;
 const USAGE: &str = "usage:
   judge desk <TEXT                        what the desk prints for a text
   judge stored FOLDER                     what the program of the stored runs prints, from its args and data/
-  judge boundaries FILE                   what the program of boundaries prints, for the calls that FILE names
-  judge families [full]                   what the program of seeded tables prints, small or at full size
+  judge boundaries FILE COMMAND WORD..    the calls that FILE lists, through a caller
+  judge families [full] COMMAND WORD..    the seeded tables of all families, small or at full size, through a caller
   judge family NUMBER N M                 the table of a family, from 1, as a text
   judge text SEED INDEX                   a text of the comparison
   judge texts COUNT SEED COMMAND WORD..   random texts through a desk
@@ -44,22 +46,28 @@ fn answer_stored(folder: &Path) -> io::Result<bool> {
     Ok(true)
 }
 
-/// Writes a line for each call that the file names.
-fn write_boundaries(file: &str) -> io::Result<bool> {
-    let lines = boundaries::lines(&std::fs::read_to_string(file)?);
-    print!(
-        "{}",
-        lines.ok_or(io::Error::other(
-            "a line that names no call, or a boundary that never came"
-        ))?
-    );
-    Ok(true)
+/// Compares calls that have names; true if nothing differed and everything wanted was among how they must end.
+fn told_of_named(what: &str, calls: &[(String, Call)], wanted: &[String], command: &[&str]) -> io::Result<bool> {
+    let (ends, differing) = compare_named(calls, &words(command));
+    let never_came = |part: &&String| !ends.iter().any(|end| end.contains(part.as_str()));
+    let missing: Vec<&String> = wanted.iter().filter(never_came).collect();
+    if !missing.is_empty() {
+        println!("never seen: {missing:?}");
+    }
+    println!("{} {what}, {differing} differences", calls.len());
+    Ok(differing == 0 && missing.is_empty())
 }
 
-/// Writes a line for each family of seeded tables.
-fn write_families(full: bool) -> io::Result<bool> {
-    print!("{}", lines(full));
-    Ok(true)
+/// Compares the calls that the file lists.
+fn compare_boundaries(file: &str, command: &[&str]) -> io::Result<bool> {
+    let calls = boundaries::calls(&std::fs::read_to_string(file)?);
+    let calls = calls.ok_or(io::Error::other("a line that names no call"))?;
+    told_of_named("calls at bounds", &calls, &boundaries::wanted(), command)
+}
+
+/// Compares the families of seeded tables, small or at full size.
+fn compare_families(full: bool, command: &[&str]) -> io::Result<bool> {
+    told_of_named("seeded tables", &families::calls(full), &[], command)
 }
 
 /// Writes the table of a family as a text.
@@ -107,13 +115,17 @@ fn number(argument: &str) -> io::Result<u64> {
         .map_err(|_| io::Error::other(format!("{argument} is no number")))
 }
 
+/// The words of a command.
+fn words(command: &[&str]) -> Vec<String> {
+    command.iter().map(|word| word.to_string()).collect()
+}
+
 /// The comparison that the arguments give.
 fn comparison(count: &str, seed: &str, command: &[&str]) -> io::Result<Comparison> {
-    let command = command.iter().map(|word| word.to_string()).collect();
     Ok(Comparison {
         count: number(count)?,
         seed: number(seed)?,
-        command,
+        command: words(command),
     })
 }
 
@@ -128,9 +140,9 @@ fn run(arguments: &[&str]) -> io::Result<bool> {
     match arguments {
         ["desk"] => answer_input(),
         ["stored", folder] => answer_stored(Path::new(folder)),
-        ["boundaries", file] => write_boundaries(file),
-        ["families"] => write_families(false),
-        ["families", "full"] => write_families(true),
+        ["boundaries", file, command @ ..] if !command.is_empty() => compare_boundaries(file, command),
+        ["families", "full", command @ ..] if !command.is_empty() => compare_families(true, command),
+        ["families", command @ ..] if !command.is_empty() => compare_families(false, command),
         ["family", number, n, m] => write_family(number, n, m),
         ["text", seed, index] => write_text(number(seed)?, number(index)?),
         ["texts", count, seed, command @ ..] if !command.is_empty() => {

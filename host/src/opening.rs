@@ -4,7 +4,7 @@ use crate::refusal::{Name, Refusal};
 use crate::run::{away, Lists};
 use crate::side::side;
 use crate::solve::{answered, has_room, value, work_need, Answer};
-use crate::table::{check, Table, MOST_CAPACITY};
+use crate::table::{check, check_unbounded, Table, MOST_CAPACITY};
 use std::collections::VecDeque;
 
 /// The place that is opened and its new capacity.
@@ -154,6 +154,7 @@ fn try_open(
     work: &mut [u32],
 ) -> Result<Answer, Refusal> {
     check(table, has_room(table, flow, side_row, work))?;
+    check_unbounded(table)?;
     check_opening(table, opening)?;
     let flow = &mut flow[..table.arcs()];
     if why_not_maximum(table, flow).is_some() {

@@ -18,6 +18,9 @@ pub enum Name {
     Line,
     Count,
     Long,
+    Minimum,
+    Impossible,
+    Bounded,
     Lower,
     NotMax,
 }
@@ -41,6 +44,9 @@ impl Name {
             Name::Line => 13,
             Name::Count => 14,
             Name::Long => 15,
+            Name::Minimum => 19,
+            Name::Impossible => 20,
+            Name::Bounded => 21,
             Name::Lower => 22,
             Name::NotMax => 23,
         }
@@ -64,6 +70,9 @@ impl Name {
             Name::Line => "LINE",
             Name::Count => "COUNT",
             Name::Long => "LONG",
+            Name::Minimum => "MINIMUM",
+            Name::Impossible => "IMPOSSIBLE",
+            Name::Bounded => "BOUNDED",
             Name::Lower => "LOWER",
             Name::NotMax => "NOTMAX",
         }

@@ -1,7 +1,8 @@
 //! Solving a table into lent rows.
 
-use crate::refusal::Refusal;
-use crate::run::run;
+use crate::bounded::greatest_flow;
+use crate::refusal::{Name, Refusal};
+use crate::run::{run, Outcome};
 use crate::table::{check, Table};
 
 /// What comes back from a solved table, or a refusal with all other fields 0.
@@ -10,7 +11,7 @@ pub struct Answer {
     pub refusal: u32,
     pub place: u32,
     pub stamp: u32,
-    pub value: u64,
+    pub value: i64,
     pub scale: u64,
     pub phases: u32,
     pub saturating: u64,
@@ -29,18 +30,29 @@ pub fn has_room(table: &Table, flow: &[u32], side: &[u8], work: &[u32]) -> bool 
 }
 
 /// The value, the net flow out of s.
-pub fn value(table: &Table, flow: &[u32]) -> u64 {
-    let mut out_of_source = 0;
-    let mut into_source = 0;
+pub fn value(table: &Table, flow: &[u32]) -> i64 {
+    let mut value = 0;
     for (place, amount) in flow.iter().enumerate() {
         if table.tails[place] == table.s {
-            out_of_source += u64::from(*amount);
+            value += i64::from(*amount);
         }
         if table.heads[place] == table.s {
-            into_source += u64::from(*amount);
+            value -= i64::from(*amount);
         }
     }
-    out_of_source - into_source
+    value
+}
+
+/// What solving an accepted table ends with: the run's end or, with minimums, a greatest flow and 0 elsewhere; none if
+/// no flow keeps the minimums.
+fn outcome(table: &Table) -> Option<Outcome> {
+    if !table.is_bounded() {
+        return Some(run(table));
+    }
+    Some(Outcome {
+        flow: greatest_flow(table)?,
+        ..Outcome::default()
+    })
 }
 
 /// Solves a table into the lent rows, or gives a refusal and leaves every row unchanged.
@@ -52,7 +64,7 @@ pub fn try_solve(
     work: &mut [u32],
 ) -> Result<Answer, Refusal> {
     check(table, has_room(table, flow, side, work))?;
-    let outcome = run(table);
+    let outcome = outcome(table).ok_or(Name::Impossible.at(0))?;
     let marks = crate::side::side(table, &outcome.flow);
     flow[..table.arcs()].copy_from_slice(&outcome.flow);
     side[..table.n as usize].copy_from_slice(&marks);

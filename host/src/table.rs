@@ -14,7 +14,7 @@ pub const MOST_ARCS: usize = 4_096;
 /// The greatest capacity of an arc.
 pub const MOST_CAPACITY: u32 = 1_000_000;
 
-/// A table has n nodes, a source s, a sink t and three rows with one place for each arc.
+/// A table has n nodes, a source s, a sink t and four rows with one place for each arc.
 #[derive(Clone, Copy)]
 pub struct Table<'a> {
     pub n: u32,
@@ -23,6 +23,7 @@ pub struct Table<'a> {
     pub tails: &'a [u32],
     pub heads: &'a [u32],
     pub capacities: &'a [u32],
+    pub minimums: &'a [u32],
 }
 
 impl Table<'_> {
@@ -36,9 +37,15 @@ impl Table<'_> {
         1 <= number && number <= self.n
     }
 
-    /// Whether the three arc rows have one length.
+    /// Whether the four arc rows have one length.
     fn rows_agree(&self) -> bool {
-        self.tails.len() == self.heads.len() && self.tails.len() == self.capacities.len()
+        let others = [self.heads, self.capacities, self.minimums];
+        others.iter().all(|row| row.len() == self.tails.len())
+    }
+
+    /// Whether some arc has a minimum above 0.
+    pub fn is_bounded(&self) -> bool {
+        self.minimums.iter().any(|minimum| *minimum > 0)
     }
 
     /// Whether the source and the sink are different nodes.
@@ -56,6 +63,8 @@ impl Table<'_> {
             Some(Name::Loop)
         } else if self.capacities[place] > MOST_CAPACITY {
             Some(Name::Capacity)
+        } else if self.minimums[place] > self.capacities[place] {
+            Some(Name::Minimum)
         } else {
             None
         }
@@ -85,4 +94,13 @@ pub fn check(table: &Table, has_room: bool) -> Result<(), Refusal> {
         }
     }
     Ok(())
+}
+
+/// Refuses an accepted table with a minimum above 0.
+pub fn check_unbounded(table: &Table) -> Result<(), Refusal> {
+    if table.is_bounded() {
+        Err(Name::Bounded.at(0))
+    } else {
+        Ok(())
+    }
 }

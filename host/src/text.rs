@@ -6,7 +6,7 @@ use crate::table::{check, Table};
 /// The greatest length of a text in bytes.
 pub const LONGEST_TEXT: usize = 1_048_576;
 
-/// What reading a text returns beside the three arc rows.
+/// What reading a text returns beside the four arc rows.
 #[derive(Clone, Copy, PartialEq, Eq, Debug)]
 pub struct Given {
     pub n: u32,
@@ -24,6 +24,7 @@ struct Gathered {
     tails: Vec<u32>,
     heads: Vec<u32>,
     capacities: Vec<u32>,
+    minimums: Vec<u32>,
 }
 
 impl Gathered {
@@ -59,13 +60,14 @@ impl Gathered {
 
     /// Takes in an arc line unless it is one too many.
     fn take_arc(&mut self, line: &[u8], m: u32) -> Result<(), Name> {
-        let [tail, head, capacity] = arc_line(line).ok_or(Name::Line)?;
+        let [tail, head, capacity, minimum] = arc_line(line).ok_or(Name::Line)?;
         if self.tails.len() as u64 >= u64::from(m) {
             return Err(Name::Count);
         }
         self.tails.push(tail);
         self.heads.push(head);
         self.capacities.push(capacity);
+        self.minimums.push(minimum);
         Ok(())
     }
 
@@ -135,10 +137,13 @@ fn end_line(line: &[u8]) -> Option<(u32, u8)> {
     }
 }
 
-/// Reads a line with a, the tail, the head and the capacity.
-fn arc_line(line: &[u8]) -> Option<[u32; 3]> {
+/// Reads a line with a, the tail, the head, the capacity and, where it is said, the minimum.
+fn arc_line(line: &[u8]) -> Option<[u32; 4]> {
     match fields(line)?[..] {
-        [b"a", tail, head, capacity] => Some([number(tail)?, number(head)?, number(capacity)?]),
+        [b"a", tail, head, capacity] => Some([number(tail)?, number(head)?, number(capacity)?, 0]),
+        [b"a", tail, head, capacity, minimum] => {
+            Some([number(tail)?, number(head)?, number(capacity)?, number(minimum)?])
+        }
         _ => None,
     }
 }
@@ -155,8 +160,14 @@ fn judge_lines(text: &[u8]) -> Result<(Given, Gathered), Refusal> {
     Ok((given, gathered))
 }
 
-/// Reads a text, then judges the table that it gives and writes the three arc rows.
-pub fn read(text: &[u8], tails: &mut [u32], heads: &mut [u32], capacities: &mut [u32]) -> Result<Given, Refusal> {
+/// Reads a text, then judges the table that it gives and writes the four arc rows.
+pub fn read(
+    text: &[u8],
+    tails: &mut [u32],
+    heads: &mut [u32],
+    capacities: &mut [u32],
+    minimums: &mut [u32],
+) -> Result<Given, Refusal> {
     if text.len() > LONGEST_TEXT {
         return Err(Name::Long.at(0));
     }
@@ -168,12 +179,14 @@ pub fn read(text: &[u8], tails: &mut [u32], heads: &mut [u32], capacities: &mut 
         tails: &gathered.tails,
         heads: &gathered.heads,
         capacities: &gathered.capacities,
+        minimums: &gathered.minimums,
     };
     let m = table.arcs();
-    let has_room = tails.len() >= m && heads.len() >= m && capacities.len() >= m;
+    let has_room = [&*tails, heads, capacities, minimums].iter().all(|row| row.len() >= m);
     check(&table, has_room)?;
     tails[..m].copy_from_slice(table.tails);
     heads[..m].copy_from_slice(table.heads);
     capacities[..m].copy_from_slice(table.capacities);
+    minimums[..m].copy_from_slice(table.minimums);
     Ok(given)
 }

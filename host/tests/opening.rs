@@ -2,6 +2,7 @@
 
 mod shared;
 
+use judge::compare::caller::NUMBERS;
 use judge::compare::openings::{brought, random_opening};
 use judge::compare::random::Random;
 use judge::compare::tables::OwnTable;
@@ -11,7 +12,7 @@ use judge::solve::Answer;
 use shared::{small_random_table, solved, table_of, work_need, LISTING_ARCS, STAMP};
 
 /// Makes the answer of an opening.
-fn opened(stamp: u32, value: u64) -> Answer {
+fn opened(stamp: u32, value: i64) -> Answer {
     Answer {
         stamp,
         value,
@@ -109,6 +110,7 @@ fn an_equal_capacity_raises_the_stamp() {
 fn opening_refuses_in_the_order_of_the_request() {
     let mut table = OwnTable::with_arcs(513, 1, 1, &[(1, 2, 4), (2, 2, 1_000_001)]);
     table.heads.push(1);
+    table.minimums[0] = 1;
     let short = Rows::of(&table_of(3, &[]), &[], 0);
     let asked = (2, 1_000_001);
     assert_refused(&table, &short, asked, Name::Nodes, 0);
@@ -123,6 +125,10 @@ fn opening_refuses_in_the_order_of_the_request() {
     table.heads[1] = 3;
     assert_refused(&table, &rows, asked, Name::Capacity, 1);
     table.capacities[1] = 3;
+    assert_refused(&table, &rows, asked, Name::Bounded, 0);
+    table.minimums[0] = 5;
+    assert_refused(&table, &rows, asked, Name::Minimum, 0);
+    table.minimums[0] = 0;
     assert_refused(&table, &rows, asked, Name::Place, 2);
     assert_refused(&table, &rows, (4_294_967_295, 0), Name::Place, 4_294_967_295);
     assert_refused(&table, &rows, (1, 1_000_001), Name::Capacity, 1);
@@ -287,7 +293,7 @@ fn openings_of_the_comparison() {
         let answer = rows.open(table, call.stamp, call.place, call.capacity);
         if answer.refusal == 0 {
             assert_as_afresh(table, &call.flow[..m], call.place as usize, call.capacity);
-            let things = brought(&call, &[0; 9]);
+            let things = brought(&call, &[0; NUMBERS]);
             others += u32::from(things.contains(&"another maximum flow".to_string()));
         }
     }

@@ -15,20 +15,20 @@ use shared::{
 };
 
 /// Checks that a text gives a table and writes only its places of arc rows of the given lengths.
-fn assert_text_read_in(text: &[u8], lengths: [usize; 3], table: &OwnTable) {
+fn assert_text_read_in(text: &[u8], lengths: [usize; 4], table: &OwnTable) {
     let (n, m, s, t) = (table.n, table.arcs(), table.s, table.t);
     let (found, rows) = read_in(text, lengths);
     assert_eq!(found, Ok(Given { n, m: m as u32, s, t }), "{}", shown(text));
-    for (row, written) in rows.iter().zip([&table.tails, &table.heads, &table.capacities]) {
+    for (row, written) in rows.iter().zip(table.rows()) {
         assert_eq!(row[..m], written[..]);
         assert!(row[m..].iter().all(|number| *number == 7));
     }
 }
 
-/// Checks that a text gives a table where the arc rows are exact, one longer and two longer.
+/// Checks that a text gives a table where the arc rows are exact and longer.
 fn assert_text_read(text: &[u8], table: &OwnTable) {
     let m = table.arcs();
-    assert_text_read_in(text, [m, m + 1, m + 2], table);
+    assert_text_read_in(text, [m, m + 1, m + 2, m + 3], table);
 }
 
 /// Checks the name and the place by which each text is refused.
@@ -274,9 +274,12 @@ fn text_the_arcs_have_their_form() {
         "a 1 2",
         "a 1 2 ",
         "a 1 2\t \t",
-        "a 1 2 3 4",
-        "a 1 2 3\t4",
-        "a 1 2 1 0",
+        "a 1 2 3 4 5",
+        "a 1 2 3\t4\t5",
+        "a 1 2 1 0 0",
+        "a 1 2 3 00",
+        "a 1 2 3 -0",
+        "a 1 2 3 4294967296",
         " a 1 2 3",
         "\ta 1 2 3",
         "a 1 2 3\r",
@@ -374,18 +377,18 @@ fn text_many_arcs() {
 
 /// Too short an arc row is refused by ROOM, after ENDS and before NODE, and lengths may differ.
 #[test]
-fn text_room_in_the_three_arc_rows() {
+fn text_room_in_the_four_arc_rows() {
     let listing = LISTING_TEXT.as_bytes();
-    for lengths in [[3, 4, 4], [4, 3, 4], [4, 4, 3], [0, 0, 0]] {
+    for lengths in [[3, 4, 4, 4], [4, 3, 4, 4], [4, 4, 3, 4], [4, 4, 4, 3], [0; 4]] {
         assert_text_refused_in(listing, lengths, Name::Room, 0);
     }
-    assert_text_read_in(listing, [4, 9, 5], &table_of(4, &LISTING_ARCS));
-    assert_text_read_in(two_nodes(0, "").as_bytes(), [0, 0, 0], &table_of(2, &[]));
+    assert_text_read_in(listing, [4, 9, 5, 6], &table_of(4, &LISTING_ARCS));
+    assert_text_read_in(two_nodes(0, "").as_bytes(), [0; 4], &table_of(2, &[]));
     let same_ends = b"p max 2 1\nn 1 s\nn 1 t\na 3 3 1\n";
-    assert_text_refused_in(same_ends, [0, 0, 0], Name::Ends, 0);
+    assert_text_refused_in(same_ends, [0; 4], Name::Ends, 0);
     let no_node = two_nodes(1, "a 3 3 1\n");
-    assert_text_refused_in(no_node.as_bytes(), [1, 0, 1], Name::Room, 0);
-    assert_text_refused_in(no_node.as_bytes(), [1, 1, 1], Name::Node, 0);
+    assert_text_refused_in(no_node.as_bytes(), [1, 0, 1, 1], Name::Room, 0);
+    assert_text_refused_in(no_node.as_bytes(), [1; 4], Name::Node, 0);
 }
 
 /// A text may have 1,048,576 bytes, and one byte more is refused by LONG.

@@ -39,7 +39,7 @@ fn cut_capacity(table: &OwnTable, marks: &[u8]) -> u64 {
 fn assert_truths(table: &OwnTable) {
     let found = solved(table);
     let answer = found.answer;
-    let value = answer.value as i64;
+    let value = answer.value;
     for node in 1..=table.n {
         let expected = match node {
             _ if node == table.s => value,
@@ -50,7 +50,7 @@ fn assert_truths(table: &OwnTable) {
     }
     assert_eq!(found.side[table.s as usize - 1], 1);
     assert_eq!(found.side[table.t as usize - 1], 0);
-    assert_eq!(cut_capacity(table, &found.side), answer.value);
+    assert_eq!(cut_capacity(table, &found.side) as i64, answer.value);
     assert_eq!(found.side, side(&table.lent(), &found.flow));
     let (n, m) = (u64::from(table.n), table.arcs() as u64);
     assert!(answer.saturating <= 2 * n * m);
@@ -91,7 +91,7 @@ fn assert_least_side(table: &OwnTable) {
         }
     }
     let found = solved(table);
-    assert_eq!(found.answer.value, least);
+    assert_eq!(found.answer.value, least as i64);
     assert_eq!(found.side, common);
 }
 

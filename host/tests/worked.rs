@@ -159,7 +159,13 @@ fn names_have_their_numbers_and_words() {
         (Name::Count, "COUNT"),
         (Name::Long, "LONG"),
     ];
-    let later = [(22, (Name::Lower, "LOWER")), (23, (Name::NotMax, "NOTMAX"))];
+    let later = [
+        (19, (Name::Minimum, "MINIMUM")),
+        (20, (Name::Impossible, "IMPOSSIBLE")),
+        (21, (Name::Bounded, "BOUNDED")),
+        (22, (Name::Lower, "LOWER")),
+        (23, (Name::NotMax, "NOTMAX")),
+    ];
     for (number, (name, word)) in (1..).zip(names).chain(later) {
         assert_eq!(name.number(), number);
         assert_eq!(name.word(), word);
@@ -266,12 +272,21 @@ fn solving_refuses_in_the_order_of_the_paper() {
 
 /// Rows that differ in length are refused by ROWS.
 #[test]
-fn rows_of_any_three_lengths() {
-    for [tails, heads, capacities] in [[1, 0, 0], [0, 1, 0], [0, 0, 1], [1, 1, 0], [0, 5_000, 9_000]] {
+fn rows_of_any_four_lengths() {
+    for [tails, heads, capacities, minimums] in [
+        [1, 0, 0, 0],
+        [0, 1, 0, 0],
+        [0, 0, 1, 0],
+        [0, 0, 0, 1],
+        [1, 1, 0, 1],
+        [1, 1, 1, 0],
+        [0, 5_000, 9_000, 0],
+    ] {
         let table = OwnTable {
             tails: vec![1; tails],
             heads: vec![2; heads],
             capacities: vec![3; capacities],
+            minimums: vec![0; minimums],
             ..table_of(2, &[])
         };
         assert_refused(&table, Name::Rows, 0);

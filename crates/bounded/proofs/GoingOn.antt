@@ -25,7 +25,8 @@ use Rattle.augment.proofs.Settling.{FlowRow, settled-row, settled-long, settled
 use Rattle.start.specs.Sums.{sumAt}
 use Rattle.arcs.specs.Ends.{WideEnds}
 use Rattle.arcs.specs.Work.{workEnd}
-use Rattle.bounded.specs.Bounded.{BoundedTable, boundedOf, boundedNetwork, AcceptedBounded, BoundedRows, boundedSide, valueOf, GreatestBounded}
+use Rattle.bounded.specs.Bounded.{boundedNetwork, boundedSide, valueOf, GreatestBounded}
+use Rattle.minimums.specs.BoundedTable.{BoundedTable, boundedOf, AcceptedBounded, BoundedRows}
 use Rattle.bounded.specs.Solving.{Solvable, Above, Holds}
 use Rattle.bounded.specs.Joining.{Small}
 use Rattle.bounded.proofs.Networks.{held-enters, held-leaves}

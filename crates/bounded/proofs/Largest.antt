@@ -17,7 +17,8 @@ use Rattle.run.proofs.Whole.{capacity-in-all}
 use Rattle.reach.specs.Side.{marked, sideFrom}
 use Rattle.reach.proofs.Side.{side-reached}
 use Rattle.joined.proofs.Joining.{inflow-most, outflow-most}
-use Rattle.bounded.specs.Bounded.{BoundedTable, AcceptedBounded, boundedNetwork, valueOf, cutCapacity, GreatestBounded}
+use Rattle.bounded.specs.Bounded.{boundedNetwork, valueOf, cutCapacity, GreatestBounded}
+use Rattle.minimums.specs.BoundedTable.{BoundedTable, AcceptedBounded}
 use Rattle.bounded.proofs.Signed.{less, same, same-only, size}
 
 -- An accepted bounded table makes a sound network.

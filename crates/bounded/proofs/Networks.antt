@@ -19,7 +19,8 @@ use Rattle.arcs.specs.Ends.{WideEnds}
 use Rattle.arcs.specs.Work.{workEnd}
 use Rattle.joined.specs.Joined.{Joins, Lifts, meets}
 use Rattle.joined.proofs.Joining.{joined-sound, lifted-flow, largest-fills, filled-flow}
-use Rattle.bounded.specs.Bounded.{boundedOf, AcceptedBounded, BoundedRows, boundedNetwork, BoundedFlow, NoFlow}
+use Rattle.bounded.specs.Bounded.{boundedNetwork, BoundedFlow, NoFlow}
+use Rattle.minimums.specs.BoundedTable.{boundedOf, AcceptedBounded, BoundedRows}
 use Rattle.bounded.specs.Joining.{joinedArcs, joinedTail, joinedHead, joinedCapacity, JoinedRows, metRow, joinedFlow, FirstRows, Small}
 use Rattle.bounded.specs.Filling.{Full}
 use Rattle.bounded.specs.Solving.{Feasible, Above, First, Started, OwnRows}

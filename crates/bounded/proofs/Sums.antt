@@ -10,7 +10,7 @@ use Rattle.rows.specs.Sum.{only}
 use Rattle.rows.proofs.Sums.{only-le, sum-bound}
 use Rattle.start.specs.Sums.{sumAt}
 use Rattle.bounded.specs.Joining.{Small}
-use Rattle.bounded.specs.Bounded.{BoundedRows}
+use Rattle.minimums.specs.BoundedTable.{BoundedRows}
 
 -- What small numbers sum up to fits 32 bits.
 pub small-sum : {ends row : List ℕ} → Small ends row → (i : ℕ) → sumAt ends row i (length ends) ≤ 4096000000

@@ -15,7 +15,8 @@ use Rattle.network.proofs.Notions.{Sound}
 use Rattle.table.specs.Table.{arcs}
 use Rattle.reach.specs.Side.{marked}
 use Rattle.reach.proofs.Side.{same-reached, length-of-side}
-use Rattle.bounded.specs.Bounded.{BoundedTable, AcceptedBounded, boundedNetwork, boundedSide, valueOf, GreatestBounded}
+use Rattle.bounded.specs.Bounded.{boundedNetwork, boundedSide, valueOf, GreatestBounded}
+use Rattle.minimums.specs.BoundedTable.{BoundedTable, AcceptedBounded}
 use Rattle.bounded.specs.Solving.{Leaves}
 use Rattle.bounded.specs.declared.Bounded.{Bounded}
 use Rattle.bounded.specs.declared.Bounded.the-variants.{Impossible, Value}

@@ -8,41 +8,15 @@ use lib.IntN.{ℤ, pos, _-ℤ_, natAbs}
 use lib.Signed.{_≤ℤ_}
 use Rattle.rows.specs.Row.{Node, atPlace}
 use Rattle.network.specs.Network.{Network, Flow, Cut, Reached, inflow, outflow, leaving, entering}
-use Rattle.table.specs.Table.{Table, tableOf, capacity}
-use Rattle.table.specs.Accepted.{ArcRows}
+use Rattle.table.specs.Table.{capacity}
+use Rattle.minimums.specs.BoundedTable.{BoundedTable, minimum}
 use Rattle.reach.specs.Side.{marked, sideFrom}
 use Rattle.augment.specs.Augment.{boundNetwork}
-
--- A table with a fourth row: the least flow of each arc.
-pub record BoundedTable : Type 0 where
-  pub table : Table
-  pub minimums : List ℕ
-
--- The bounded table of these numbers and rows.
-abbrev pub boundedOf : (n s t : ℕ) (tails heads capacities minimums : List ℕ) → BoundedTable
-boundedOf n s t tails heads capacities minimums = record { table = tableOf n s t tails heads capacities; minimums = minimums }
-
--- The least flow of the arc at place k.
-abbrev pub minimum : BoundedTable → ℕ → ℕ
-minimum b k = atPlace (b .minimums) k
 
 -- The bounded table as a network. The residual from head to tail is flow less minimum.
 abbrev pub boundedNetwork : BoundedTable → Network
 boundedNetwork b =
     boundNetwork (b .table .nodes) (b .table .source) (b .table .sink) (b .table .tails) (b .table .heads) (b .table .capacities) (b .minimums)
-
--- Four rows of arcs among n nodes: a table's three within its limits, with a minimum for each arc that is not above its capacity.
-pub record BoundedRows (n : ℕ) (tails heads capacities minimums : List ℕ) : Type 0 where
-  pub arcs : ArcRows n tails heads capacities
-  pub minimums-long : length minimums ≡ length capacities
-  pub within : (k : ℕ) → k < length capacities → atPlace minimums k ≤ atPlace capacities k
-
--- An accepted bounded table: an accepted table, with a minimum for each arc that is not above its capacity.
-pub record AcceptedBounded (b : BoundedTable) : Type 0 where
-  pub source : Node (b .table .nodes) (b .table .source)
-  pub sink : Node (b .table .nodes) (b .table .sink)
-  pub apart : b .table .source ≡ b .table .sink → ⊥
-  pub rows : BoundedRows (b .table .nodes) (b .table .tails) (b .table .heads) (b .table .capacities) (b .minimums)
 
 -- A flow that keeps every arc between its two numbers; what enters a node other than source and sink leaves it.
 abbrev pub BoundedFlow : BoundedTable → (ℕ → ℕ) → Type 0

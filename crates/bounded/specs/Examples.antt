@@ -7,7 +7,8 @@ use Rattle.rows.specs.Row.{atPlace}
 use Rattle.rows.specs.Sum.{sum}
 use Rattle.network.specs.Network.{inflow, outflow, leaving, entering}
 use Rattle.reach.specs.Side.{marked, sideFrom}
-use Rattle.bounded.specs.Bounded.{BoundedTable, boundedOf, valueOf, cutCapacity, boundedSide, NoFlow}
+use Rattle.bounded.specs.Bounded.{valueOf, cutCapacity, boundedSide, NoFlow}
+use Rattle.minimums.specs.BoundedTable.{BoundedTable, boundedOf}
 
 -- 1>2 of 4, 1>3 of 2, 2>3 of 1 to 4, 3>4 of 1 and 4>1 of 2 to 3, source 1 and sink 4: two come back at least, and one goes out.
 loop-back : BoundedTable

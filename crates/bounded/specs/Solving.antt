@@ -8,7 +8,8 @@ use Rattle.rows.specs.Row.{atPlace, byPlace}
 use Rattle.arcs.specs.Work.{workEnd}
 use Rattle.joined.specs.Joined.{Loose}
 use Rattle.table.specs.Table.{arcs, capacity}
-use Rattle.bounded.specs.Bounded.{BoundedTable, boundedOf, boundedNetwork, AcceptedBounded, minimum, BoundedFlow, NoFlow, boundedSide, GreatestBounded}
+use Rattle.bounded.specs.Bounded.{boundedNetwork, BoundedFlow, NoFlow, boundedSide, GreatestBounded}
+use Rattle.minimums.specs.BoundedTable.{BoundedTable, boundedOf, AcceptedBounded, minimum}
 use Rattle.bounded.specs.Joining.{joinedArcs, joinedFlow}
 use Rattle.bounded.specs.declared.Bounded.{Bounded}
 use Rattle.bounded.specs.declared.Bounded.the-variants.{Impossible, Value}

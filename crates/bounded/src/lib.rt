@@ -8,7 +8,7 @@ ghost use lib.ListN.{length, drop, replicate};
 ghost use Rattle.rows.specs.Row.{atPlace, byPlace};
 ghost use Rattle.start.specs.Sums.{sumAt};
 ghost use Rattle.arcs.specs.Work.{workEnd};
-ghost use Rattle.bounded.specs.Bounded.{BoundedRows, boundedOf, AcceptedBounded};
+ghost use Rattle.minimums.specs.BoundedTable.{BoundedRows, boundedOf, AcceptedBounded};
 ghost use Rattle.bounded.specs.Joining.{joinedArcs, joinedTail, joinedHead, joinedCapacity, Few, Small, JoinedRows, metRow, joinedFlow, FirstRows};
 ghost use Rattle.bounded.specs.Filling.{Full};
 ghost use Rattle.bounded.specs.Solving.{Solvable, First, Started, OwnRows, Feasible, Above, Leaves};

@@ -1,11 +1,14 @@
 // The front door's calls for a program in C or Rust to link, as the host's comparisons do: the crates' own, under names of their own.
 ghost use mathlib.Core.Path.{_≡_};
 ghost use Rattle.table.specs.Table.{tableOf};
-ghost use Rattle.solver.specs.Solving.{left, solving, Meets};
+ghost use Rattle.minimums.specs.BoundedTable.{boundedOf};
+ghost use Rattle.solver.specs.Solving.{left};
+ghost use Rattle.planner.specs.Solving.{signedLeft, Solves, SolvesWell};
 ghost use Rattle.planner.specs.Reading.{reading};
 ghost use Rattle.opening.specs.Maximum.{MaximumFlow};
 ghost use Rattle.opening.specs.Opening.{opened, opening, Reopens};
 use planner::Reading;
+use planner::Signed;
 use solver::Answer;
 
 // `planner::solve`.
@@ -18,14 +21,27 @@ pub extern "C" fn jorrabide_solve(
     tails: &[u32],
     heads: &[u32],
     capacities: &[u32],
+    minimums: &[u32],
     flow: &mut [u32],
     side: &mut [u8],
     work: &mut [u32],
-) -> Answer
-    ensures exact { λ r. ⌜ left r (now (flow .exit)) (now (side .exit)) (now (work .exit)) ≡ solving (tableOf n s t (now (tails .entry)) (now (heads .entry)) (now (capacities .entry))) stamp (now (flow .entry)) (now (side .entry)) (now (work .entry)) ⌝ }
-    ensures best { λ r. ⌜ (r .refusal ≡ 0 → Meets (tableOf n s t (now (tails .entry)) (now (heads .entry)) (now (capacities .entry))) (left r (now (flow .exit)) (now (side .exit)) (now (work .exit)))) ⌝ }
+) -> Signed
+    ensures exact { λ r. ⌜ Solves (boundedOf n s t (now (tails .entry)) (now (heads .entry)) (now (capacities .entry)) (now (minimums .entry))) stamp (now (flow .entry)) (now (side .entry)) (now (work .entry)) (signedLeft r (now (flow .exit)) (now (side .exit)) (now (work .exit))) ⌝ }
+    ensures best { λ r. ⌜ (r .refusal ≡ 0 → SolvesWell (boundedOf n s t (now (tails .entry)) (now (heads .entry)) (now (capacities .entry)) (now (minimums .entry))) (signedLeft r (now (flow .exit)) (now (side .exit)) (now (work .exit)))) ⌝ }
 {
-    planner::solve(n, s, t, stamp, tails, heads, capacities, flow, side, work)
+    planner::solve(
+        n,
+        s,
+        t,
+        stamp,
+        tails,
+        heads,
+        capacities,
+        minimums,
+        flow,
+        side,
+        work,
+    )
 }
 
 // `planner::read_place`.
@@ -38,12 +54,13 @@ pub extern "C" fn jorrabide_read_place(
     tails: &[u32],
     heads: &[u32],
     capacities: &[u32],
+    minimums: &[u32],
     answer: u32,
     flow: &[u32],
     side: &[u8],
     place: u32,
 ) -> Reading
-    ensures { λ r. ⌜ r ≡ reading (tableOf n s t (now (tails .entry)) (now (heads .entry)) (now (capacities .entry))) stamp answer (now (flow .entry)) (now (side .entry)) place ⌝ }
+    ensures { λ r. ⌜ r ≡ reading (boundedOf n s t (now (tails .entry)) (now (heads .entry)) (now (capacities .entry)) (now (minimums .entry))) stamp answer (now (flow .entry)) (now (side .entry)) place ⌝ }
 {
     planner::read_place(
         n,
@@ -53,6 +70,7 @@ pub extern "C" fn jorrabide_read_place(
         tails,
         heads,
         capacities,
+        minimums,
         answer,
         flow,
         side,
@@ -70,13 +88,14 @@ pub extern "C" fn jorrabide_open(
     tails: &[u32],
     heads: &[u32],
     capacities: &[u32],
+    minimums: &[u32],
     place: u32,
     capacity: u32,
     flow: &mut [u32],
     side: &mut [u8],
     work: &mut [u32],
 ) -> Answer
-    ensures exact { λ r. ⌜ left r (now (flow .exit)) (now (side .exit)) (now (work .exit)) ≡ opening (tableOf n s t (now (tails .entry)) (now (heads .entry)) (now (capacities .entry))) stamp place capacity (now (flow .entry)) (now (side .entry)) (now (work .entry)) ⌝ }
+    ensures exact { λ r. ⌜ left r (now (flow .exit)) (now (side .exit)) (now (work .exit)) ≡ opening (boundedOf n s t (now (tails .entry)) (now (heads .entry)) (now (capacities .entry)) (now (minimums .entry))) stamp place capacity (now (flow .entry)) (now (side .entry)) (now (work .entry)) ⌝ }
     ensures best { λ r. ⌜ (r .refusal ≡ 0 → Reopens (tableOf n s t (now (tails .entry)) (now (heads .entry)) (now (capacities .entry))) (opened (tableOf n s t (now (tails .entry)) (now (heads .entry)) (now (capacities .entry))) place capacity) (now (flow .entry)) (left r (now (flow .exit)) (now (side .exit)) (now (work .exit)))) ⌝ }
     ensures notmax { λ r. ⌜ (r .refusal ≡ 23 → MaximumFlow (tableOf n s t (now (tails .entry)) (now (heads .entry)) (now (capacities .entry))) (now (flow .entry)) → ⊥) ⌝ }
 {
@@ -88,6 +107,7 @@ pub extern "C" fn jorrabide_open(
         tails,
         heads,
         capacities,
+        minimums,
         place,
         capacity,
         flow,

@@ -1,24 +1,22 @@
--- The desk prints at most 35,060 bytes: eight lines of 232 together; `side=` and 4 bytes for each of 512 nodes; LF, `flow=`, and 8 bytes for
+-- The desk prints at most 35,061 bytes: eight lines of 233 together; `side=` and 4 bytes for each of 512 nodes; LF, `flow=`, and 8 bytes for
 -- each of 4,096 flows; and LF.
 use Prim.Native.Nat.{ℕ, zero, suc, _+_, _*_, _/_, _%_, _^_, _<_, _≤_}
-use mathlib.Core.Path.{_≡_, refl, ap}
+use mathlib.Core.Path.{_≡_, refl}
 use mathlib.Core.Bool.{Bool, true, false, cond}
 use mathlib.Core.List.{List, [], _∷_, _++_}
 use native.Mathlib.Nat.{pow-suc}
 use native.Mathlib.Decide.{decLt}
 use native.Mathlib.Omega.{arith}
 use lib.Dec.{ltb, eqb}
-use lib.ListN.{length, getD, drop, length-append, length-take}
+use lib.ListN.{length, getD, take, length-append, length-take}
 use borrow.Author.Tests.{lt-ltb, le-ltb}
 use Rattle.table.specs.declared.Name.{Name}
-use Rattle.table.specs.declared.Name.the-variants.{Long}
+use Rattle.table.specs.declared.Name.the-variants.{Long, Impossible}
 use Rattle.table.proofs.Numbers.{name-short}
-use Rattle.table.specs.Table.{Table, arcs}
-use Rattle.run.specs.Phase.{run}
-use Rattle.run.proofs.Answers.{run-best, run-fits}
-use Rattle.reach.specs.Side.{sideOf}
-use Rattle.solver.specs.Solving.{solution}
-use Rattle.solver.proofs.Solved.{solved-marks}
+use Rattle.table.specs.Ascii.{bytes}
+use Rattle.table.specs.Table.{arcs}
+use Rattle.minimums.specs.BoundedTable.{BoundedTable}
+use Rattle.planner.proofs.Demands.{solves-well}
 use Rattle.text.specs.declared.Given.{Given}
 use Rattle.text.specs.declared.Given.the-variants.{Read, Refusal}
 use Rattle.scan.specs.Parts.{lines}
@@ -28,7 +26,7 @@ use Rattle.report.specs.declared.Summary.{Summary}
 use Rattle.pen.specs.Printed.{digitsOf, further, spaced}
 use Rattle.pen.proofs.Digits.{digits-most, digits-below}
 use Rattle.report.specs.Printed.{markedNodes, numberLines, solvedText, refusedText}
-use Rattle.counter.specs.Desk.{summaryOf, tableText, answerText, deskText}
+use Rattle.counter.specs.Desk.{summaryOf, zeros, TableText, solved, impossible, AnswerText, DeskAs, DeskText}
 use Rattle.counter.proofs.Solves.{Passes, accepted, few-nodes, few-arcs}
 
 -- ---- numbers
@@ -68,8 +66,13 @@ marks-length (mark ∷ rest) k some h =
 
 -- ---- what is printed
 
--- Each of the eight lines takes its name, at most 20 digits, and LF.
-lines-length : (r : Summary) → length (numberLines r) ≤ 232
+-- A sign takes at most one byte.
+sign-length : (below : Bool) → length (cond below (bytes "-") []) ≤ 1
+sign-length true = omega arith
+sign-length false = omega arith
+
+-- Each of the eight lines takes its name, at most 20 digits, and LF; that of the value a sign too.
+lines-length : (r : Summary) → length (numberLines r) ≤ 233
 unfolding numberLines
 lines-length r =
     simp length-append
@@ -78,6 +81,7 @@ lines-length r =
       digits-most 20 (r .n),
       digits-most 20 (r .m),
       digits-most 20 (r .value),
+      sign-length (r .below),
       digits-most 20 (r .scale),
       digits-most 20 (r .phases),
       digits-most 20 (r .saturating),
@@ -87,42 +91,39 @@ lines-length r =
 
 -- The ten lines of a table within document 01's bounds.
 solved-length : (r : Summary) (side flow : List ℕ) → length side ≤ 512 → length flow ≤ 4096 → ((k : ℕ) → k < length flow → getD flow k 0 ≤ 1000000)
-    → length (solvedText r side flow) ≤ 35060
+    → length (solvedText r side flow) ≤ 35061
 unfolding solvedText
 solved-length r side flow few-nodes few-arcs small =
     simp length-append
     (omega (arith, lines-length r, marks-length side 1 false (omega arith), flows-length false flow small))
 
 -- The two lines of a refusal.
-refused-length : (name : Name) (place : ℕ) → length (refusedText name place) ≤ 35060
+refused-length : (name : Name) (place : ℕ) → length (refusedText name place) ≤ 35061
 unfolding refusedText
 refused-length name place = simp length-append (omega (arith, name-short name, digits-most 20 place))
 
--- A solved table: no flow is above its capacity.
-table-length : (t : Table) → Passes t → length (tableText t) ≤ 35060
-unfolding tableText
-table-length t ok =
-    let flow = run t .state .flow in
-    let side = sideOf t flow in
-    let taken = accepted t ok in
-    let marks = ap length (solved-marks t taken []) in
-    let cut = length-take (t .nodes) (side ++ drop (t .nodes) []) in
-    let flows = run-fits t taken .flow in
-    solved-length (summaryOf (t .nodes) (arcs t) (solution t 0)) side flow (omega (arith, few-nodes t ok)) (omega (arith, few-arcs t ok))
-    (λ k l. omega (arith, run-best t taken .answer .valid .high k (omega arith), taken .rows .small k (omega arith)))
+-- A table that was read: no flow is above its capacity.
+table-length : (b : BoundedTable) → Passes b → {printed : List ℕ} → TableText b printed → length printed ≤ 35061
+table-length b ok (solved l so none) =
+    let t = b .table in
+    let best = solves-well b 0 (zeros 4096) (zeros 512) (zeros 10241) l so none .greatest in
+    let rows = accepted b ok .rows .arcs in
+    let marks = length-take (t .nodes) (l .side) in
+    let flows = length-take (arcs t) (l .flow) in
+    solved-length (summaryOf (t .nodes) (arcs t) (l .answer)) (take (t .nodes) (l .side)) (take (arcs t) (l .flow)) (omega (arith, few-nodes b ok)) (omega (arith, few-arcs b ok))
+    (λ k h. omega (arith, best .keeps .high k (omega arith), rows .small k (omega arith)))
+table-length b ok (impossible none) = refused-length Impossible 0
 
 -- What was read, or refused.
-answer-length : (text : List ℕ) (a : Given) → givenBy text 4096 4096 4096 ≡ a → length (answerText text a) ≤ 35060
-unfolding answerText
-answer-length text (Read n m s t) e = table-length (tableIn (lines text) n s t) (read-accepts text 4096 4096 4096 e .passes)
-answer-length text (Refusal name place) e = refused-length name place
+answer-length : (text : List ℕ) (a : Given) → givenBy text 4096 4096 4096 4096 ≡ a → (printed : List ℕ) → AnswerText text a printed → length printed ≤ 35061
+answer-length text (Read n m s t) e printed may = table-length (tableIn (lines text) n s t) (read-accepts text 4096 4096 4096 4096 e .passes) may
+answer-length text (Refusal name place) e printed may = rw may (refused-length name place)
 
--- One of two texts.
-either-length : (long : Bool) (a b : List ℕ) → length a ≤ 35060 → length b ≤ 35060 → length (cond long a b) ≤ 35060
-either-length true a b p q = p
-either-length false a b p q = q
+-- By whether the text is too long.
+by-length : (long : Bool) (text printed : List ℕ) → DeskAs long text printed → length printed ≤ 35061
+by-length true text printed may = rw may (refused-length Long 0)
+by-length false text printed may = answer-length text (givenBy text 4096 4096 4096 4096) refl printed may
 
 -- Any text.
-pub desk-length : (text : List ℕ) → length (deskText text) ≤ 35060
-unfolding deskText
-desk-length text = either-length (ltb 65536 (length text)) _ _ (refused-length Long 0) (answer-length text (givenBy text 4096 4096 4096) refl)
+pub desk-length : (text printed : List ℕ) → DeskText text printed → length printed ≤ 35061
+desk-length text printed may = by-length (ltb 65536 (length text)) text printed may

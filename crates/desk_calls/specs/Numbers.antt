@@ -11,7 +11,7 @@ abbrev pub textOf : Values → Text
 textOf v = record { refusal = v .refusal; place = v .place; n = v .n; m = v .m; s = v .s; t = v .t }
 
 -- Reading returns the numbers of what the text gives, and leaves the arc rows as reading does.
-pub record ReadsAs (text tails heads capacities : List ℕ) (r : Text) (tails′ heads′ capacities′ : List ℕ) : Type 0 where
+pub record ReadsAs (text tails heads capacities minimums : List ℕ) (r : Text) (tails′ heads′ capacities′ minimums′ : List ℕ) : Type 0 where
   pub given : Given
-  pub reads : Reads text tails heads capacities given tails′ heads′ capacities′
+  pub reads : Reads text tails heads capacities minimums given tails′ heads′ capacities′ minimums′
   pub numbers : r ≡ textOf (valuesOf given)

@@ -47,10 +47,11 @@ pub extern "C" fn jorrabide_read_text(
     tails: &mut [u32],
     heads: &mut [u32],
     capacities: &mut [u32],
+    minimums: &mut [u32],
 ) -> Text
-    ensures { λ r. ⌜ ReadsAs (now (text .entry)) (now (tails .entry)) (now (heads .entry)) (now (capacities .entry)) r (now (tails .exit)) (now (heads .exit)) (now (capacities .exit)) ⌝ }
+    ensures { λ r. ⌜ ReadsAs (now (text .entry)) (now (tails .entry)) (now (heads .entry)) (now (capacities .entry)) (now (minimums .entry)) r (now (tails .exit)) (now (heads .exit)) (now (capacities .exit)) (now (minimums .exit)) ⌝ }
 {
-    in_numbers(text::read(text, tails, heads, capacities))
+    in_numbers(text::read(text, tails, heads, capacities, minimums))
 }
 
 // `counter::serve`.

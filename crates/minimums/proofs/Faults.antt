@@ -16,7 +16,7 @@ use Rattle.table.specs.declared.Name.the-variants.{Nodes, Rows, Arcs, Ends, Roo
 use Rattle.table.specs.Checks.{isFine, refuseIf, outside, differ, badEnds, orElse, inOrder, sizesOf, arcFault, firstFault, checkOf}
 use Rattle.table.proofs.Faults.{orElse-fine, passed, neither, inOrder-sizes}
 use Rattle.table.proofs.Accepts.{sizes-fine, both-fine, check-accepts}
-use Rattle.bounded.specs.Bounded.{BoundedTable, AcceptedBounded}
+use Rattle.minimums.specs.BoundedTable.{BoundedTable, AcceptedBounded}
 use Rattle.minimums.specs.Checks.{differFour, boundedSizes, boundedFault, firstBoundedFault, boundedCheck, withMinimums, endOf, FirstAbove, none, first}
 
 -- ---- the sizes

@@ -1,6 +1,5 @@
+pub mod Order
 pub mod Faults
 pub mod Zeros
-pub mod Answers
-pub mod Firsts
-pub mod Plain
-pub mod Unique
+pub mod Accepting
+pub mod Rowless

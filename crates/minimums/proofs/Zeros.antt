@@ -10,7 +10,7 @@ use lib.ListN.{length, getD, drop, drop-of-length-le}
 use lib.Seq.{drop-cons}
 use Rattle.rows.specs.Row.{atPlace}
 use Rattle.rows.proofs.Sums.{both-true}
-use Rattle.minimums.specs.Solving.{allZero}
+use Rattle.minimums.specs.Checks.{allZero}
 
 module _ (row : List ℕ) (k : ℕ) where
   -- A 0 leaves it to the rest,

@@ -1,17 +1,17 @@
 -- Document 02, CR 11: what is wrong with a table of four rows. ROWS looks at all of them, and an arc's MINIMUM comes after its CAPACITY.
 use Prim.Native.Nat.{ℕ, suc, _+_, _≤_, _<_}
 use mathlib.Core.Path.{_≡_}
-use mathlib.Core.Bool.{Bool, not, _||_}
+use mathlib.Core.Bool.{Bool, true, not, _&&_, _||_}
 use mathlib.Core.List.{List, [], _∷_}
 use lib.Dec.{ltb, eqb}
 use lib.ListN.{length}
 use Rattle.rows.specs.Row.{atPlace}
-use Rattle.table.specs.Table.{Table}
+use Rattle.table.specs.Table.{Table, arcs}
 use Rattle.table.specs.Checks.{refuseIf, outside, differ, badEnds, arcFault, orElse, inOrder}
-use Rattle.table.specs.declared.Name.the-variants.{Nodes, Rows, Arcs, Ends, Minimum}
+use Rattle.table.specs.declared.Name.the-variants.{Nodes, Rows, Arcs, Ends, Minimum, Bounded}
 use Rattle.table.specs.declared.Verdict.{Verdict}
 use Rattle.table.specs.declared.Verdict.the-variants.{Fine, Refused}
-use Rattle.bounded.specs.Bounded.{BoundedTable}
+use Rattle.minimums.specs.BoundedTable.{BoundedTable}
 
 -- Four lengths that are not all the same.
 unfoldable pub differFour : (tails heads capacities minimums : ℕ) → Bool
@@ -51,6 +51,21 @@ boundedCheck b room =
     (boundedSizes (b .table .nodes) (length (b .table .tails)) (length (b .table .heads)) (length (b .table .capacities)) (length (b .minimums)) (b .table .source) (b .table .sink))
     room
     (firstBoundedFault (b .table .nodes) 0 (b .table .tails) (b .table .heads) (b .table .capacities) (b .minimums))
+
+-- ---- tables without minimums
+
+-- Whether all numbers of a row are 0.
+unfoldable pub allZero : List ℕ → Bool
+allZero [] = true
+allZero (x ∷ xs) = eqb x 0 && allZero xs
+
+-- Whether there is a minimum for each arc, and all are 0.
+abbrev pub plain : BoundedTable → Bool
+plain b = eqb (length (b .minimums)) (arcs (b .table)) && allZero (b .minimums)
+
+-- All checks of a call that takes no minimum above 0: the table's own, and right after them BOUNDED.
+abbrev pub plainCheck : BoundedTable → (room : Bool) → Verdict
+plainCheck b room = orElse (boundedCheck b room) (refuseIf (not (allZero (b .minimums))) Bounded 0 Fine)
 
 -- ---- how the code finds them: the verdict of three rows, and a minimum above its capacity before the place that it refuses
 

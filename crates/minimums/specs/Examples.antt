@@ -5,7 +5,7 @@ use mathlib.Core.List.{[], _∷_}
 use Rattle.table.specs.Checks.{outside, differ, badEnds, arcFault, orElse, inOrder}
 use Rattle.table.specs.declared.Name.the-variants.{Rows, Room, Capacity, Minimum}
 use Rattle.table.specs.declared.Verdict.the-variants.{Fine, Refused}
-use Rattle.bounded.specs.Bounded.{boundedOf}
+use Rattle.minimums.specs.BoundedTable.{boundedOf}
 use Rattle.minimums.specs.Checks.{differFour, boundedSizes, boundedFault, firstBoundedFault, boundedCheck}
 
 -- 1>2 of 3 to 4 and 2>2 of 1: the first arc's MINIMUM comes before the second one's LOOP.

@@ -1,3 +1,3 @@
+pub mod BoundedTable
 pub mod Checks
-pub mod Solving
 pub mod Examples

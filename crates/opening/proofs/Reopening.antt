@@ -21,7 +21,11 @@ use Rattle.reach.proofs.Side.{length-of-side}
 use Rattle.run.proofs.Networks.{accepted-sound}
 use Rattle.arcs.specs.Work.{workNeed, InWork}
 use Rattle.solver.specs.declared.Answer.{Answer}
-use Rattle.solver.specs.Solving.{Left, left, refusal, answerWith, solvingVerdict}
+use Rattle.solver.specs.Solving.{Left, left, hasRoom, refusal, answerWith}
+use Rattle.minimums.specs.BoundedTable.{BoundedTable}
+use Rattle.minimums.specs.Checks.{plainCheck}
+use Rattle.minimums.proofs.Accepting.{plain-accepts}
+use Rattle.solver.proofs.Solved.{Roomy, room-roomy}
 use Rattle.augment.specs.Augment.{settled}
 use Rattle.opening.specs.Maximum.{MaximumFlow}
 use Rattle.opening.specs.Opening.{opened, changeVerdict, openingVerdict, wentOn, openingAs, opening, Reopens}
@@ -174,55 +178,62 @@ module _ (t : Table) (stamp place new : ℕ) (flow side work : List ℕ) (v : Ve
       change-opens t place new flow (length side) (length work) ok (record { for-flow = room .0; for-side = room .1; for-work = room .2 }) (ap isFine (sym found ∙ e)) .0
 
 -- By the old table's own verdict.
-module _ (t : Table) (stamp place new : ℕ) (flow side work : List ℕ) (v : Verdict) (found : v ≡ solvingVerdict t (length flow) (length side) (length work)) where
+module _ (b : BoundedTable) (stamp place new : ℕ) (flow side work : List ℕ) (v : Verdict)
+    (found : v ≡ plainCheck b (hasRoom (b .table .nodes) (arcs (b .table)) (length flow) (length side) (length work))) where
   -- Where it refuses, the call gives that refusal and leaves the rows.
-  pub refused-own : (name : Name) (at : ℕ) → v ≡ Refused name at → (r : Answer) → r ≡ refusal name at → left r flow side work ≡ opening t stamp place new flow side work
+  pub refused-own : (name : Name) (at : ℕ) → v ≡ Refused name at → (r : Answer) → r ≡ refusal name at → left r flow side work ≡ opening b stamp place new flow side work
   unfolding opening openingAs openingVerdict orElse
   refused-own name at e r f = rw (← found, e) (ap (λ (a : Answer). left a flow side work) f)
 
-  -- Where it does not, the change decides.
-  pub fine-own : v ≡ Fine → (l : Left) → l ≡ openingAs (changeVerdict t place new flow) (opened t place new) stamp flow side work
-      → l ≡ opening t stamp place new flow side work
+  -- Where it does not, the table is accepted and the rows have room,
+  pub own-accepts : v ≡ Fine → Accepted (b .table) × Roomy (b .table .nodes) (arcs (b .table)) (length flow) (length side) (length work)
+  own-accepts e =
+      let (ok, room) = plain-accepts b _ (ap isFine (sym found ∙ e)) in
+      (ok, room-roomy (b .table .nodes) (arcs (b .table)) (length flow) (length side) (length work) room)
+
+  -- and the change decides.
+  pub fine-own : v ≡ Fine → (l : Left) → l ≡ openingAs (changeVerdict (b .table) place new flow) (opened (b .table) place new) stamp flow side work
+      → l ≡ opening b stamp place new flow side work
   unfolding opening openingVerdict orElse
   fine-own e l f = rw (← found, e) f
 
 -- By the whole verdict.
-module _ (t : Table) (stamp place new : ℕ) (flow side work : List ℕ) (v : Verdict) (found : v ≡ openingVerdict t place new flow (length side) (length work)) where
+module _ (b : BoundedTable) (stamp place new : ℕ) (flow side work : List ℕ) (v : Verdict) (found : v ≡ openingVerdict b place new flow (length side) (length work)) where
   -- A refusal is given, and the rows left.
-  refused-opening : (name : Name) (at : ℕ) → v ≡ Refused name at → left (refusal name at) flow side work ≡ opening t stamp place new flow side work
+  refused-opening : (name : Name) (at : ℕ) → v ≡ Refused name at → left (refusal name at) flow side work ≡ opening b stamp place new flow side work
   unfolding opening openingAs
   refused-opening name at e = rw (← found, e)
 
   -- Or the call goes on.
-  fine-opening : v ≡ Fine → wentOn (opened t place new) stamp flow side work ≡ opening t stamp place new flow side work
+  fine-opening : v ≡ Fine → wentOn (opened (b .table) place new) stamp flow side work ≡ opening b stamp place new flow side work
   unfolding opening openingAs
   fine-opening e = rw (← found, e)
 
-module _ (t : Table) (stamp place new : ℕ) (flow side work : List ℕ) (l : Left) (same : l ≡ opening t stamp place new flow side work) where
+module _ (b : BoundedTable) (stamp place new : ℕ) (flow side work : List ℕ) (l : Left) (same : l ≡ opening b stamp place new flow side work) where
   -- What refuses nothing reopens the table.
-  pub opening-reopens : l .answer .refusal ≡ 0 → Reopens t (opened t place new) flow l
-  opening-reopens none = go (openingVerdict t place new flow (length side) (length work)) refl
+  pub opening-reopens : l .answer .refusal ≡ 0 → Reopens (b .table) (opened (b .table) place new) flow l
+  opening-reopens none = go (openingVerdict b place new flow (length side) (length work)) refl
     where
-      go : (v : Verdict) → v ≡ openingVerdict t place new flow (length side) (length work) → Reopens t (opened t place new) flow l
+      go : (v : Verdict) → v ≡ openingVerdict b place new flow (length side) (length work) → Reopens (b .table) (opened (b .table) place new) flow l
       go Fine e =
-          let (opens, most) = fine-opens t place new flow (length side) (length work) (sym e) in
-          subst (Reopens t (opened t place new) flow)
-          (fine-opening t stamp place new flow side work Fine e refl ∙ sym same)
+          let (opens, most) = fine-opens b place new flow (length side) (length work) (sym e) in
+          subst (Reopens (b .table) (opened (b .table) place new) flow)
+          (fine-opening b stamp place new flow side work Fine e refl ∙ sym same)
           (went-reopens opens most stamp side work)
       go (Refused name at) e =
           absurd
           (number-positive name
-          (ap (λ (x : Left). x .answer .refusal) (refused-opening t stamp place new flow side work (Refused name at) e name at refl ∙ sym same) ∙ none))
+          (ap (λ (x : Left). x .answer .refusal) (refused-opening b stamp place new flow side work (Refused name at) e name at refl ∙ sym same) ∙ none))
 
   -- And 23 says that the row is not a maximum flow of the old table.
-  pub opening-notmax : l .answer .refusal ≡ 23 → MaximumFlow t flow → ⊥
-  opening-notmax refused = go (openingVerdict t place new flow (length side) (length work)) refl
+  pub opening-notmax : l .answer .refusal ≡ 23 → MaximumFlow (b .table) flow → ⊥
+  opening-notmax refused = go (openingVerdict b place new flow (length side) (length work)) refl
     where
-      go : (v : Verdict) → v ≡ openingVerdict t place new flow (length side) (length work) → MaximumFlow t flow → ⊥
+      go : (v : Verdict) → v ≡ openingVerdict b place new flow (length side) (length work) → MaximumFlow (b .table) flow → ⊥
       go Fine e most =
-          let zero = ap (λ (x : Left). x .answer .refusal) (fine-opening t stamp place new flow side work Fine e refl ∙ sym same) in
-          omega (arith, went-fine (opened t place new) stamp flow side work, zero, refused)
+          let zero = ap (λ (x : Left). x .answer .refusal) (fine-opening b stamp place new flow side work Fine e refl ∙ sym same) in
+          omega (arith, went-fine (opened (b .table) place new) stamp flow side work, zero, refused)
       go (Refused name at) e most =
-          notmax-not t place new flow (length side) (length work)
-          (ap refusalIn (sym e) ∙ ap (λ (x : Left). x .answer .refusal) (refused-opening t stamp place new flow side work (Refused name at) e name at refl ∙ sym same) ∙ refused)
+          notmax-not b place new flow (length side) (length work)
+          (ap refusalIn (sym e) ∙ ap (λ (x : Left). x .answer .refusal) (refused-opening b stamp place new flow side work (Refused name at) e name at refl ∙ sym same) ∙ refused)
           most

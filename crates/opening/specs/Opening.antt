@@ -17,7 +17,9 @@ use Rattle.run.specs.Demands.{Best}
 use Rattle.arcs.specs.Work.{workNeed}
 use Rattle.stamps.specs.Stamp.{raised}
 use Rattle.solver.specs.declared.Answer.{Answer}
-use Rattle.solver.specs.Solving.{Left, left, refusal, answerWith, solvingVerdict}
+use Rattle.solver.specs.Solving.{Left, left, hasRoom, refusal, answerWith}
+use Rattle.minimums.specs.BoundedTable.{BoundedTable}
+use Rattle.minimums.specs.Checks.{plainCheck}
 use Rattle.augment.specs.Augment.{settled, GoesOn}
 use Rattle.opening.specs.Maximum.{MaximumFlow, isMaximum}
 
@@ -34,11 +36,11 @@ changeVerdict t place new flow =
     (refuseIf (ltb new (capacity t place)) Lower 0
     (refuseIf (not (isMaximum t flow)) NotMax 0 Fine)))
 
--- The order: the old table's own refusals as for solving, then these. Of side and work row only the lengths count.
-unfoldable pub openingVerdict : Table → (place capacity : ℕ) → (flow : List ℕ) → (side work : ℕ) → Verdict
+-- The order: the old table's own refusals as for solving, BOUNDED, then these. Of side and work row only the lengths count.
+unfoldable pub openingVerdict : BoundedTable → (place capacity : ℕ) → (flow : List ℕ) → (side work : ℕ) → Verdict
 unfolding changeVerdict
-openingVerdict t place capacity flow side work =
-    orElse (solvingVerdict t (length flow) side work) (changeVerdict t place capacity flow)
+openingVerdict b place capacity flow side work =
+    orElse (plainCheck b (hasRoom (b .table .nodes) (arcs (b .table)) (length flow) side work)) (changeVerdict (b .table) place capacity flow)
 
 -- The answer: the raised stamp and the value; D, K and the counts are 0.
 abbrev pub openedAnswer : (stamp value : ℕ) → Answer
@@ -61,10 +63,10 @@ openingAs Fine new stamp flow side work = wentOn new stamp flow side work
 openingAs (Refused name place) new stamp flow side work = left (refusal name place) flow side work
 
 -- Opening the arc at the place of the old table to the new capacity, with these rows lent.
-unfoldable pub opening : Table → (stamp place capacity : ℕ) → (flow side work : List ℕ) → Left
+unfoldable pub opening : BoundedTable → (stamp place capacity : ℕ) → (flow side work : List ℕ) → Left
 unfolding openingVerdict openingAs
-opening t stamp place capacity flow side work =
-    openingAs (openingVerdict t place capacity flow (length side) (length work)) (opened t place capacity) stamp flow side work
+opening b stamp place capacity flow side work =
+    openingAs (openingVerdict b place capacity flow (length side) (length work)) (opened (b .table) place capacity) stamp flow side work
 
 -- What an opening that refuses nothing gives: the row was a maximum flow of the old table; document 02's chains lead from it to the new flow; value and side are those of solving the new table afresh, and the best.
 pub record Reopens (t new : Table) (flow : List ℕ) (l : Left) : Type 0 where

@@ -8,6 +8,7 @@ ghost use mathlib.Core.List.{List};
 ghost use lib.ListN.{length, set, replicate};
 ghost use Rattle.rows.specs.Row.{Node, atPlace, atNode};
 ghost use Rattle.network.specs.Network.{Flow};
+ghost use Rattle.minimums.specs.BoundedTable.{boundedOf};
 ghost use Rattle.table.specs.Table.{tableOf, networkOf};
 ghost use Rattle.table.specs.Accepted.{ArcRows, Accepted};
 ghost use Rattle.reach.specs.Side.{marked, sideOf};
@@ -457,27 +458,19 @@ pub fn open(
     tails: &[u32],
     heads: &[u32],
     capacities: &[u32],
+    minimums: &[u32],
     place: u32,
     capacity: u32,
     flow: &mut [u32],
     side: &mut [u8],
     work: &mut [u32],
 ) -> Answer
-    ensures exact { λ r. ⌜ left r (now (flow .exit)) (now (side .exit)) (now (work .exit)) ≡ opening (tableOf n s t (now (tails .entry)) (now (heads .entry)) (now (capacities .entry))) stamp place capacity (now (flow .entry)) (now (side .entry)) (now (work .entry)) ⌝ }
+    ensures exact { λ r. ⌜ left r (now (flow .exit)) (now (side .exit)) (now (work .exit)) ≡ opening (boundedOf n s t (now (tails .entry)) (now (heads .entry)) (now (capacities .entry)) (now (minimums .entry))) stamp place capacity (now (flow .entry)) (now (side .entry)) (now (work .entry)) ⌝ }
     ensures best { λ r. ⌜ (r .refusal ≡ 0 → Reopens (tableOf n s t (now (tails .entry)) (now (heads .entry)) (now (capacities .entry))) (opened (tableOf n s t (now (tails .entry)) (now (heads .entry)) (now (capacities .entry))) place capacity) (now (flow .entry)) (left r (now (flow .exit)) (now (side .exit)) (now (work .exit)))) ⌝ }
     ensures notmax { λ r. ⌜ (r .refusal ≡ 23 → MaximumFlow (tableOf n s t (now (tails .entry)) (now (heads .entry)) (now (capacities .entry))) (now (flow .entry)) → ⊥) ⌝ }
 {
-    match solver::solving_verdict(
-        n,
-        s,
-        t,
-        tails,
-        heads,
-        capacities,
-        flow.len(),
-        side.len(),
-        work.len(),
-    ) {
+    let room = solver::has_room(n, capacities.len(), flow.len(), side.len(), work.len());
+    match minimums::plain_check(n, tails, heads, capacities, minimums, s, t, room) {
         Verdict::Refused(name, at) => solver::refused(name, at),
         Verdict::Fine => open_accepted(
             n,

@@ -4,9 +4,11 @@ use mathlib.Core.Path.{_≡_, refl}
 use mathlib.Core.Bool.{true}
 use mathlib.Core.List.{List}
 use lib.ListN.{length}
-use Rattle.table.specs.Table.{Table, arcs}
+use Rattle.table.specs.Table.{arcs}
+use Rattle.minimums.specs.BoundedTable.{BoundedTable}
+use Rattle.minimums.specs.Checks.{boundedCheck}
 use Rattle.table.specs.Refusals.{refusalIn, placeIn}
-use Rattle.table.specs.Checks.{orElse, checkOf}
+use Rattle.table.specs.Checks.{orElse}
 use Rattle.table.specs.declared.Name.the-variants.{Stale, Ahead}
 use Rattle.table.specs.declared.Verdict.the-variants.{Fine}
 use Rattle.stamps.specs.Stamp.{relationNumber, distanceIn, rebuilt}
@@ -24,15 +26,15 @@ stamp-number Unordered = (refl, refl)
 stamp-number (AheadBy distance) = (refl, refl)
 
 module _
-    (t : Table) (flow side : List ℕ) (place d stamp : ℕ)
-    (fine : checkOf t (hasAnswer (t .nodes) (arcs t) (length flow) (length side)) ≡ Fine)
+    (b : BoundedTable) (flow side : List ℕ) (place d stamp : ℕ)
+    (fine : boundedCheck b (hasAnswer (b .table .nodes) (arcs (b .table)) (length flow) (length side)) ≡ Fine)
     (small : stamp < 2 ^ 32) (some : 1 ≤ d) (few : d < 2 ^ 31) where
   -- After d rebuilds of a table that no check refuses, an answer reads STALE at d.
-  pub reads-stale : reading t (rebuilt d stamp) stamp flow side place ≡ refusedReading Stale d
+  pub reads-stale : reading b (rebuilt d stamp) stamp flow side place ≡ refusedReading Stale d
   unfolding reading readingAs readingVerdict orElse
   reads-stale = rw (fine, stale-after d stamp small some few)
 
   -- With the two stamps exchanged it reads AHEAD at d.
-  pub reads-ahead : reading t stamp (rebuilt d stamp) flow side place ≡ refusedReading Ahead d
+  pub reads-ahead : reading b stamp (rebuilt d stamp) flow side place ≡ refusedReading Ahead d
   unfolding reading readingAs readingVerdict orElse
   reads-ahead = rw (fine, ahead-after d stamp small some few)

@@ -63,7 +63,7 @@ fn answer_of(stamp: u32, value: u64, outcome: Outcome) -> Answer
 }
 
 // Whether rows of these lengths have room for m flows, n marks and the work.
-fn has_room(n: u32, m: usize, flow: usize, side: usize, work: usize) -> bool
+pub fn has_room(n: u32, m: usize, flow: usize, side: usize, work: usize) -> bool
     requires { ⌜ m < 2 ^ 61 ⌝ }
     ensures { λ r. ⌜ r ≡ hasRoom n m flow side work ⌝ }
 {

@@ -10,7 +10,7 @@ use lib.Dec.{leb, ltb, eqb, lit≤}
 use lib.ListN.{length, getD, drop}
 use borrow.Author.Tests.{leb-true, eqb-true, ne-eqb}
 use Rattle.rows.proofs.Sums.{both-true}
-use Rattle.table.specs.declared.Arc.{Arc}
+use Rattle.minimums.specs.declared.Arc.{Arc}
 use Rattle.table.specs.declared.Name.the-variants.{Long}
 use Rattle.table.specs.Ascii.{bytes}
 use Rattle.scan.specs.declared.Number.{Number}
@@ -27,9 +27,9 @@ use Rattle.text.specs.declared.Judged.{Judged}
 use Rattle.text.specs.declared.Judged.the-variants.{Table, Fault}
 use Rattle.text.specs.declared.Given.{Given}
 use Rattle.text.specs.declared.Given.the-variants.{Read, Refusal}
-use Rattle.text.specs.Lines.{problemFrom, problemOf, endFrom, endOf, arcFrom, arcOf, kindFrom, kindOf, stepOf, onwards, fresh, judge, arcIn, arcsOf}
+use Rattle.text.specs.Lines.{problemFrom, problemOf, endFrom, endOf, arcFrom, minimumIn, arcOf, kindFrom, kindOf, stepOf, onwards, fresh, judge, arcIn, arcsOf}
 use Rattle.text.specs.Reading.{tableVerdict, afterJudging, givenBy}
-use Rattle.text.specs.Former.{formerFields, formerProblem, formerKind, formerJudge, formerArcs, formerAfter, formerGiven}
+use Rattle.text.specs.Former.{formerFields, formerProblem, formerArc, formerKind, formerJudge, formerArcs, formerAfter, formerGiven}
 
 -- No byte of a field is a separator.
 abbrev Plain : List ℕ → Type 0
@@ -140,21 +140,22 @@ end-solid (x ∷ (y ∷ (z ∷ (w ∷ more)))) h = inl (rw (ne-eqb (length (x �
 
 -- Behind a solid field, a former `a` line has three numbers, or is not of its form.
 arc-number : (x y z w : List ℕ) (a b d : Number) → numberIn y ≡ a → numberIn z ≡ b → numberIn w ≡ d → Solid x
-    → (arcFrom a b d ≡ Other) ⊎ Solids (x ∷ y ∷ z ∷ w ∷ [])
+    → (arcFrom (Value 0) a b d ≡ Other) ⊎ Solids (x ∷ y ∷ z ∷ w ∷ [])
 unfolding arcFrom
 arc-number x y z w (Value t) (Value h) (Value c) e f g first = inr (first, (number-solid y t e, (number-solid z h f, (number-solid w c g, tt))))
 arc-number x y z w (Value t) (Value h) NoNumber e f g first = inl refl
 arc-number x y z w (Value t) NoNumber d e f g first = inl refl
 arc-number x y z w NoNumber b d e f g first = inl refl
 
--- The fields of a former `a` line are solid, or it is not of its form.
-arc-solid : (fs : List (List ℕ)) → isLetter (code "a") (getD fs 0 []) ≡ true → (arcOf fs ≡ Other) ⊎ Solids fs
-unfolding arcOf isSeparator
+-- The fields of a former `a` line are solid, and it is one still, of minimum 0; or it is not of its form.
+arc-solid : (fs : List (List ℕ)) → isLetter (code "a") (getD fs 0 []) ≡ true → (formerArc fs ≡ Other) ⊎ (Solids fs × (arcOf fs ≡ formerArc fs))
+unfolding formerArc arcOf minimumIn isSeparator
 arc-solid [] h = inl refl
 arc-solid (x ∷ []) h = inl refl
 arc-solid (x ∷ (y ∷ [])) h = inl refl
 arc-solid (x ∷ (y ∷ (z ∷ []))) h = inl refl
-arc-solid (x ∷ (y ∷ (z ∷ (w ∷ [])))) h = arc-number x y z w (numberIn y) (numberIn z) (numberIn w) refl refl refl (letter-solid (code "a") x refl h)
+arc-solid (x ∷ (y ∷ (z ∷ (w ∷ [])))) h =
+    ⊎-elim inl (λ solid. inr (solid, refl)) (arc-number x y z w (numberIn y) (numberIn z) (numberIn w) refl refl refl (letter-solid (code "a") x refl h))
 arc-solid (x ∷ (y ∷ (z ∷ (w ∷ (v ∷ more))))) h = inl (rw (ne-eqb (length (x ∷ y ∷ z ∷ w ∷ v ∷ more)) 4 (λ e. omega arith)) refl)
 
 -- Behind its fixed bytes, a former p line has two numbers, or is not of its form.
@@ -202,11 +203,11 @@ module _ (line : List ℕ) where
   Kept former now = (former ≡ Other) ⊎ (now ≡ former)
 
   -- A line is kept whose former fields are solid, or make it none of this kind, where its first field is this kind's letter.
-  kept-letter : (of : List (List ℕ) → Kind) (t : Bool) {rest : Kind} → (t ≡ true → (of (formerFields line) ≡ Other) ⊎ Solids (formerFields line))
-      → (t ≡ true → kindFrom (formerFields line) ≡ of (formerFields line)) → Kept rest (kindFrom (fields line))
-      → Kept (cond t (of (formerFields line)) rest) (kindFrom (fields line))
-  kept-letter of true solid kind rest = ⊎-elim inl (λ h. inr (ap kindFrom (same-fields line (solid-clean (formerFields line) h)) ∙ kind refl)) (solid refl)
-  kept-letter of false solid kind rest = rest
+  kept-letter : (of : List (List ℕ) → Kind) (t : Bool) {rest : Kind}
+      → (t ≡ true → (of (formerFields line) ≡ Other) ⊎ (Solids (formerFields line) × (kindFrom (formerFields line) ≡ of (formerFields line))))
+      → Kept rest (kindFrom (fields line)) → Kept (cond t (of (formerFields line)) rest) (kindFrom (fields line))
+  kept-letter of true solid rest = ⊎-elim inl (λ h. inr (ap kindFrom (same-fields line (solid-clean (formerFields line) (h .0))) ∙ h .1)) (solid refl)
+  kept-letter of false solid rest = rest
 
   -- A line is kept that begins with `p max `.
   kept-problem : (t : Bool) {rest : Kind} → beginsWith (bytes "p max ") line ≡ t → Kept rest (kindFrom (fields line))
@@ -227,8 +228,8 @@ module _ (line : List ℕ) where
   unfolding formerKind kindOf
   kept-line =
       let fs = formerFields line in
-      let arc = kept-letter arcOf (isLetter (code "a") (getD fs 0 [])) (arc-solid fs) (arc-kind fs) (inl refl) in
-      let end = kept-letter endOf (isLetter (code "n") (getD fs 0 [])) (end-solid fs) (end-kind fs) arc in
+      let arc = kept-letter formerArc (isLetter (code "a") (getD fs 0 [])) (λ e. ⊎-elim inl (λ h. inr (h .0, arc-kind fs e ∙ h .1)) (arc-solid fs e)) (inl refl) in
+      let end = kept-letter endOf (isLetter (code "n") (getD fs 0 [])) (λ e. ⊎-elim inl (λ h. inr (h, end-kind fs e)) (end-solid fs e)) arc in
       kept-comment (beginsWith (bytes "c") line) (kept-problem (beginsWith (bytes "p max ") line) refl end)
 
 -- Where the lines behind a line make a table still, so they do with that line, by what it does.
@@ -262,25 +263,25 @@ not-long true rest e = absurd (let z : _≡_ {A = ℕ} 0 1 = cc in omega arith)
 not-long false rest e = (refl, e)
 
 -- The lines of a text that was read made a table.
-made-table : (arcs : List Arc) (j : Judged) (tails heads capacities : ℕ) {n m s t : ℕ} → formerAfter arcs j tails heads capacities ≡ Read n m s t → (p : Progress) × (j ≡ Table p)
+made-table : (arcs : List Arc) (j : Judged) (tails heads capacities minimums : ℕ) {n m s t : ℕ} → formerAfter arcs j tails heads capacities minimums ≡ Read n m s t → (p : Progress) × (j ≡ Table p)
 unfolding formerAfter
-made-table arcs (Table p) tails heads capacities e = (p, refl)
-made-table arcs (Fault name place) tails heads capacities e = absurd (let z : _≡_ {A = ℕ} 0 1 = cc in omega arith)
+made-table arcs (Table p) tails heads capacities minimums e = (p, refl)
+made-table arcs (Fault name place) tails heads capacities minimums e = absurd (let z : _≡_ {A = ℕ} 0 1 = cc in omega arith)
 
 -- Lines of which the former rule made a table give what they gave, whatever the checks of the table say.
-kept-given : (ls : List (List ℕ)) (p : Progress) (tails heads capacities : ℕ) → formerJudge ls fresh 1 ≡ Table p
-    → (afterJudging ls (judge ls fresh 1) tails heads capacities ≡ formerAfter (formerArcs ls) (formerJudge ls fresh 1) tails heads capacities) × (arcsOf ls ≡ formerArcs ls)
+kept-given : (ls : List (List ℕ)) (p : Progress) (tails heads capacities minimums : ℕ) → formerJudge ls fresh 1 ≡ Table p
+    → (afterJudging ls (judge ls fresh 1) tails heads capacities minimums ≡ formerAfter (formerArcs ls) (formerJudge ls fresh 1) tails heads capacities minimums) × (arcsOf ls ≡ formerArcs ls)
 unfolding afterJudging tableVerdict formerAfter
-kept-given ls p tails heads capacities table =
+kept-given ls p tails heads capacities minimums table =
     let (judged, arcs) = kept-judged ls fresh p 1 table in
     (rw (judged, table, arcs) refl, arcs)
 
 -- Every text that the former rule accepted gives the same table: the same n, m, s and t, and the same arcs.
-pub former-same : (text : List ℕ) (tails heads capacities : ℕ) {n m s t : ℕ} → formerGiven text tails heads capacities ≡ Read n m s t
-    → (givenBy text tails heads capacities ≡ Read n m s t) × (arcsOf (lines text) ≡ formerArcs (lines text))
+pub former-same : (text : List ℕ) (tails heads capacities minimums : ℕ) {n m s t : ℕ} → formerGiven text tails heads capacities minimums ≡ Read n m s t
+    → (givenBy text tails heads capacities minimums ≡ Read n m s t) × (arcsOf (lines text) ≡ formerArcs (lines text))
 unfolding formerGiven givenBy
-former-same text tails heads capacities e =
+former-same text tails heads capacities minimums e =
     let (fits, read) = not-long (ltb 1048576 (length text)) _ e in
-    let (p, table) = made-table (formerArcs (lines text)) (formerJudge (lines text) fresh 1) tails heads capacities read in
-    let (now, arcs) = kept-given (lines text) p tails heads capacities table in
+    let (p, table) = made-table (formerArcs (lines text)) (formerJudge (lines text) fresh 1) tails heads capacities minimums read in
+    let (now, arcs) = kept-given (lines text) p tails heads capacities minimums table in
     (rw fits (now ∙ read), arcs)

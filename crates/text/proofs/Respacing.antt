@@ -6,9 +6,9 @@ use mathlib.Core.List.{List, [], _∷_, _++_, map}
 use native.Mathlib.Omega.{arith}
 use lib.ListN.{length, getD}
 use borrow.Author.Tests.{le-ltb}
-use Rattle.table.specs.declared.Arc.{Arc}
+use Rattle.minimums.specs.declared.Arc.{Arc}
 use Rattle.table.specs.Ascii.{bytes}
-use Rattle.table.specs.Table.{tailsOf, headsOf, capacitiesOf}
+use Rattle.minimums.specs.BoundedTable.{tailsOf, headsOf, capacitiesOf, minimumsOf}
 use Rattle.scan.specs.Parts.{lines, beginsWith, isSeparator, fields}
 use Rattle.scan.specs.Spacing.{Respaced}
 use Rattle.scan.proofs.Respacing.{respaced-fields, first-byte}
@@ -58,30 +58,31 @@ same-judged (x ∷ xs) (y ∷ ys) e =
     )
 
 -- Lines with the same arcs give the same behind their judgement.
-same-after : (xs ys : List (List ℕ)) → arcsOf xs ≡ arcsOf ys → (j : Judged) (tails heads capacities : ℕ)
-    → afterJudging xs j tails heads capacities ≡ afterJudging ys j tails heads capacities
+same-after : (xs ys : List (List ℕ)) → arcsOf xs ≡ arcsOf ys → (j : Judged) (tails heads capacities minimums : ℕ)
+    → afterJudging xs j tails heads capacities minimums ≡ afterJudging ys j tails heads capacities minimums
 unfolding afterJudging tableVerdict
-same-after xs ys e (Table p) tails heads capacities = rw e refl
-same-after xs ys e (Fault name place) tails heads capacities = refl
+same-after xs ys e (Table p) tails heads capacities minimums = rw e refl
+same-after xs ys e (Fault name place) tails heads capacities minimums = refl
 
 -- Texts within 1,048,576 bytes that differ only in their separators give the same, and the same arcs.
-pub respaced-same : {xs ys : List ℕ} → Respaced xs ys → length xs ≤ 1048576 → length ys ≤ 1048576 → (tails heads capacities : ℕ)
-    → (givenBy xs tails heads capacities ≡ givenBy ys tails heads capacities) × (arcsOf (lines xs) ≡ arcsOf (lines ys))
+pub respaced-same : {xs ys : List ℕ} → Respaced xs ys → length xs ≤ 1048576 → length ys ≤ 1048576 → (tails heads capacities minimums : ℕ)
+    → (givenBy xs tails heads capacities minimums ≡ givenBy ys tails heads capacities minimums) × (arcsOf (lines xs) ≡ arcsOf (lines ys))
 unfolding givenBy
-respaced-same {xs} {ys} r h k tails heads capacities =
+respaced-same {xs} {ys} r h k tails heads capacities minimums =
     let (judged, arcs) = same-judged (lines xs) (lines ys) (respaced-fields r) in
-    let after = same-after (lines xs) (lines ys) arcs (judge (lines ys) fresh 1) tails heads capacities in
+    let after = same-after (lines xs) (lines ys) arcs (judge (lines ys) fresh 1) tails heads capacities minimums in
     (rw (le-ltb 1048576 (length xs) h, le-ltb 1048576 (length ys) k, judged fresh 1) after, arcs)
 
 -- So what reading the one promises, with what it leaves in the arc rows, reading the other does.
 pub respaced-reads : {xs ys : List ℕ} → Respaced xs ys → length xs ≤ 1048576 → length ys ≤ 1048576
-    → {tails heads capacities tails′ heads′ capacities′ : List ℕ} {given : Given}
-    → Reads xs tails heads capacities given tails′ heads′ capacities′ → Reads ys tails heads capacities given tails′ heads′ capacities′
-respaced-reads {xs} {ys} r h k {tails} {heads} {capacities} {given} promised =
-    let (gives, arcs) = respaced-same r h k (length tails) (length heads) (length capacities) in
+    → {tails heads capacities minimums tails′ heads′ capacities′ minimums′ : List ℕ} {given : Given}
+    → Reads xs tails heads capacities minimums given tails′ heads′ capacities′ minimums′ → Reads ys tails heads capacities minimums given tails′ heads′ capacities′ minimums′
+respaced-reads {xs} {ys} r h k {tails} {heads} {capacities} {minimums} {given} promised =
+    let (gives, arcs) = respaced-same r h k (length tails) (length heads) (length capacities) (length minimums) in
     record {
       gives = promised .gives ∙ gives;
       tails-hold = promised .tails-hold ∙ ap (λ (arcs : List Arc). rowAfter (valuesOf given) (tailsOf arcs) tails) arcs;
       heads-hold = promised .heads-hold ∙ ap (λ (arcs : List Arc). rowAfter (valuesOf given) (headsOf arcs) heads) arcs;
       capacities-hold = promised .capacities-hold ∙ ap (λ (arcs : List Arc). rowAfter (valuesOf given) (capacitiesOf arcs) capacities) arcs;
+      minimums-hold = promised .minimums-hold ∙ ap (λ (arcs : List Arc). rowAfter (valuesOf given) (minimumsOf arcs) minimums) arcs;
     }

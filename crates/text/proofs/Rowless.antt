@@ -10,7 +10,7 @@ use Rattle.table.specs.declared.Name.the-variants.{Long}
 use Rattle.table.specs.declared.Verdict.{Verdict}
 use Rattle.table.specs.declared.Verdict.the-variants.{Fine, Refused}
 use Rattle.table.specs.Refusals.{numberOf}
-use Rattle.table.proofs.Rowless.{Rowless, records-rowless}
+use Rattle.minimums.proofs.Rowless.{Rowless, records-rowless}
 use Rattle.scan.specs.Parts.{lines}
 use Rattle.text.specs.declared.Kind.{Kind}
 use Rattle.text.specs.declared.Kind.the-variants.{Comment, Problem, Source, Sink, ArcLine, Other}
@@ -80,19 +80,19 @@ given-rowless Fine p other e = omega arith
 given-rowless (Refused name place) p other e = other e
 
 -- What reading returns after the lines were judged.
-judged-rowless : (ls : List (List ℕ)) (j : Judged) (tails heads capacities : ℕ) → (faultIn j ≡ 2 → ⊥) → valuesOf (afterJudging ls j tails heads capacities) .refusal ≡ 2 → ⊥
+judged-rowless : (ls : List (List ℕ)) (j : Judged) (tails heads capacities minimums : ℕ) → (faultIn j ≡ 2 → ⊥) → valuesOf (afterJudging ls j tails heads capacities minimums) .refusal ≡ 2 → ⊥
 unfolding afterJudging tableVerdict valuesOf
-judged-rowless ls (Table p) tails heads capacities other =
-    given-rowless (tableVerdict ls p tails heads capacities) p (records-rowless (p .n) (p .s) (p .t) (arcsOf ls) (hasArcRoom (p .m) tails heads capacities))
-judged-rowless ls (Fault name place) tails heads capacities other = other
+judged-rowless ls (Table p) tails heads capacities minimums other =
+    given-rowless (tableVerdict ls p tails heads capacities minimums) p (records-rowless (p .n) (p .s) (p .t) (arcsOf ls) (hasArcRoom (p .m) tails heads capacities minimums))
+judged-rowless ls (Fault name place) tails heads capacities minimums other = other
 
 -- A text is never refused as ROWS.
-pub text-never-rows : (text : List ℕ) (tails heads capacities : ℕ) → valuesOf (givenBy text tails heads capacities) .refusal ≡ 2 → ⊥
+pub text-never-rows : (text : List ℕ) (tails heads capacities minimums : ℕ) → valuesOf (givenBy text tails heads capacities minimums) .refusal ≡ 2 → ⊥
 unfolding givenBy valuesOf
-text-never-rows text tails heads capacities =
-    by (ltb 1048576 (length text)) (judged-rowless (lines text) (judge (lines text) fresh 1) tails heads capacities (judge-rowless (lines text) fresh 1))
+text-never-rows text tails heads capacities minimums =
+    by (ltb 1048576 (length text)) (judged-rowless (lines text) (judge (lines text) fresh 1) tails heads capacities minimums (judge-rowless (lines text) fresh 1))
   where
-    by : (long : Bool) → (valuesOf (afterJudging (lines text) (judge (lines text) fresh 1) tails heads capacities) .refusal ≡ 2 → ⊥)
-        → valuesOf (cond long (Refusal Long 0) (afterJudging (lines text) (judge (lines text) fresh 1) tails heads capacities)) .refusal ≡ 2 → ⊥
+    by : (long : Bool) → (valuesOf (afterJudging (lines text) (judge (lines text) fresh 1) tails heads capacities minimums) .refusal ≡ 2 → ⊥)
+        → valuesOf (cond long (Refusal Long 0) (afterJudging (lines text) (judge (lines text) fresh 1) tails heads capacities minimums)) .refusal ≡ 2 → ⊥
     by true rest e = omega arith
     by false rest e = rest e

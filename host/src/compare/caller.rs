@@ -1,10 +1,22 @@
 //! Calls as the caller takes them, and what must come back from each.
 use super::tables::OwnTable;
-use crate::desk::serve;
+use crate::bounded::is_greatest;
+use crate::desk::{desk_with_flow_of, serve};
 use crate::opening::{open, Opening};
 use crate::reading::read_place;
 use crate::solve::{solve, Answer};
 use crate::text;
+use std::ops::Range;
+
+/// How many numbers come back from a call.
+pub const NUMBERS: usize = 9;
+
+/// The numbers that come back from a call.
+pub type Numbers = [u64; NUMBERS];
+
+/// The places of two rows in the caller's order.
+const FLOW: usize = 4;
+const OUT: usize = 8;
 
 /// Which call is made.
 #[derive(Clone, Copy, PartialEq, Eq, Debug)]
@@ -53,23 +65,23 @@ impl Call {
     }
 }
 
-/// Appends numbers of 32 bits, little-endian.
-fn put_numbers(bytes: &mut Vec<u8>, numbers: &[u32]) {
-    for number in numbers {
-        bytes.extend_from_slice(&number.to_le_bytes());
-    }
+/// A row of numbers as bytes.
+fn bytes_of(numbers: &[u32]) -> Vec<u8> {
+    numbers.iter().flat_map(|number| number.to_le_bytes()).collect()
 }
 
-/// Appends the eight lent rows, in the caller's order.
-fn put_rows(bytes: &mut Vec<u8>, call: &Call) {
-    put_numbers(bytes, &call.table.tails);
-    put_numbers(bytes, &call.table.heads);
-    put_numbers(bytes, &call.table.capacities);
-    put_numbers(bytes, &call.flow);
-    bytes.extend_from_slice(&call.side);
-    put_numbers(bytes, &call.work);
-    bytes.extend_from_slice(&call.text);
-    bytes.extend_from_slice(&call.out);
+/// The lent rows, in the caller's order: how many places each has, and its bytes.
+fn rows(call: &Call) -> Vec<(usize, Vec<u8>)> {
+    let table = &call.table;
+    let of_numbers = |row: &Vec<u32>| (row.len(), bytes_of(row));
+    let of_bytes = |row: &Vec<u8>| (row.len(), row.clone());
+    let mut rows: Vec<(usize, Vec<u8>)> = table.rows().into_iter().map(of_numbers).collect();
+    rows.push(of_numbers(&call.flow));
+    rows.push(of_bytes(&call.side));
+    rows.push(of_numbers(&call.work));
+    rows.push(of_bytes(&call.text));
+    rows.push(of_bytes(&call.out));
+    rows
 }
 
 /// A call as the caller takes it.
@@ -85,26 +97,16 @@ pub fn sent(call: &Call) -> Vec<u8> {
         call.place,
         call.capacity,
     ];
-    let lengths = [
-        table.tails.len(),
-        table.heads.len(),
-        table.capacities.len(),
-        call.flow.len(),
-        call.side.len(),
-        call.work.len(),
-        call.text.len(),
-        call.out.len(),
-    ];
-    let mut bytes = Vec::new();
-    put_numbers(&mut bytes, &numbers);
-    put_numbers(&mut bytes, &lengths.map(|length| length as u32));
-    put_rows(&mut bytes, call);
+    let rows = rows(call);
+    let mut bytes = bytes_of(&numbers);
+    rows.iter().for_each(|row| bytes.extend(bytes_of(&[row.0 as u32])));
+    rows.into_iter().for_each(|row| bytes.extend(row.1));
     bytes
 }
 
 /// Nine numbers of which these come first and the rest is 0.
-fn nine(fields: &[u32]) -> [u64; 9] {
-    let mut numbers = [0; 9];
+fn nine(fields: &[u32]) -> Numbers {
+    let mut numbers = [0; NUMBERS];
     for (number, field) in numbers.iter_mut().zip(fields) {
         *number = u64::from(*field);
     }
@@ -112,12 +114,12 @@ fn nine(fields: &[u32]) -> [u64; 9] {
 }
 
 /// The nine numbers of an answer.
-fn nine_of(answer: Answer) -> [u64; 9] {
+fn nine_of(answer: Answer) -> Numbers {
     [
         u64::from(answer.refusal),
         u64::from(answer.place),
         u64::from(answer.stamp),
-        answer.value,
+        answer.value as u64,
         answer.scale,
         u64::from(answer.phases),
         answer.saturating,
@@ -127,7 +129,7 @@ fn nine_of(answer: Answer) -> [u64; 9] {
 }
 
 /// Solves the call's table: an answer's nine numbers.
-fn make_solving(call: &mut Call) -> [u64; 9] {
+fn make_solving(call: &mut Call) -> Numbers {
     let table = call.table.lent();
     nine_of(solve(
         &table,
@@ -139,7 +141,7 @@ fn make_solving(call: &mut Call) -> [u64; 9] {
 }
 
 /// Opens the call's place: an answer's nine numbers.
-fn make_opening(call: &mut Call) -> [u64; 9] {
+fn make_opening(call: &mut Call) -> Numbers {
     let table = call.table.lent();
     let opening = Opening {
         place: call.place,
@@ -150,7 +152,7 @@ fn make_opening(call: &mut Call) -> [u64; 9] {
 }
 
 /// Reads the call's rows by place: a reading's five numbers.
-fn make_reading(call: &Call) -> [u64; 9] {
+fn make_reading(call: &Call) -> Numbers {
     let (stamp, answer_stamp) = (call.stamp, call.answer_stamp);
     let table = call.table.lent();
     let reading = read_place(&table, stamp, answer_stamp, &call.flow, &call.side, call.place);
@@ -164,21 +166,22 @@ fn make_reading(call: &Call) -> [u64; 9] {
 }
 
 /// Reads the call's text into its arc rows: a text's six numbers.
-fn make_text_reading(call: &mut Call) -> [u64; 9] {
+fn make_text_reading(call: &mut Call) -> Numbers {
     let rows = &mut call.table;
-    match text::read(&call.text, &mut rows.tails, &mut rows.heads, &mut rows.capacities) {
+    let (tails, heads) = (&mut rows.tails, &mut rows.heads);
+    match text::read(&call.text, tails, heads, &mut rows.capacities, &mut rows.minimums) {
         Ok(given) => nine(&[0, 0, given.n, given.m, given.s, given.t]),
         Err(refusal) => nine(&[refusal.name.number(), refusal.place]),
     }
 }
 
 /// Serves the call's text into its row of bytes: where the bytes end.
-fn make_serving(call: &mut Call) -> [u64; 9] {
+fn make_serving(call: &mut Call) -> Numbers {
     nine(&[serve(&call.text, &mut call.out) as u32])
 }
 
 /// Makes the call by the independent program: its nine numbers; the call's rows are changed as the call changes them.
-fn make(call: &mut Call) -> [u64; 9] {
+fn make(call: &mut Call) -> Numbers {
     match call.kind {
         Kind::Solve | Kind::SolveRecords => make_solving(call),
         Kind::ReadPlace => make_reading(call),
@@ -188,15 +191,70 @@ fn make(call: &mut Call) -> [u64; 9] {
     }
 }
 
-/// What must come back: the nine numbers, and the bytes of these, of all rows, and that nothing was written beside.
-pub fn expected(call: &Call) -> ([u64; 9], Vec<u8>) {
+/// What comes back: the numbers, all rows, and that nothing was written beside.
+fn come_back(numbers: &Numbers, call: &Call) -> Vec<u8> {
+    let mut bytes: Vec<u8> = numbers.iter().flat_map(|number| number.to_le_bytes()).collect();
+    rows(call).into_iter().for_each(|row| bytes.extend(row.1));
+    bytes.extend(bytes_of(&[1]));
+    bytes
+}
+
+/// What must come back: the numbers, and the bytes of all.
+pub fn expected(call: &Call) -> (Numbers, Vec<u8>) {
     let mut made = call.clone();
     let numbers = make(&mut made);
-    let mut bytes = Vec::new();
-    for number in numbers {
-        bytes.extend_from_slice(&number.to_le_bytes());
+    (numbers, come_back(&numbers, &made))
+}
+
+/// Where a row of the call stands in what comes back, by its place in the caller's order.
+fn row_range(call: &Call, row: usize) -> Range<usize> {
+    let lengths: Vec<usize> = rows(call).iter().map(|row| row.1.len()).collect();
+    let start = 8 * NUMBERS + lengths[..row].iter().sum::<usize>();
+    start..start + lengths[row]
+}
+
+/// What must come back of solving with the flow that came back, if that is a greatest flow of the table.
+fn expected_with_flow(call: &Call, theirs: &[u8]) -> Option<Vec<u8>> {
+    let mut made = call.clone();
+    let numbers = make(&mut made);
+    let (table, m) = (call.table.lent(), call.table.arcs());
+    let flow: Vec<u32> = theirs[row_range(call, FLOW)]
+        .chunks(4)
+        .map(|bytes| u32::from_le_bytes([bytes[0], bytes[1], bytes[2], bytes[3]]))
+        .take(m)
+        .collect();
+    let is_free = numbers[0] == 0 && table.is_bounded();
+    if !is_free || !is_greatest(&table, &flow, numbers[3] as i64, &made.side[..table.n as usize]) {
+        return None;
     }
-    put_rows(&mut bytes, &made);
-    put_numbers(&mut bytes, &[1]);
-    (numbers, bytes)
+    made.flow[..m].copy_from_slice(&flow);
+    Some(come_back(&numbers, &made))
+}
+
+/// What must come back of serving with the flow that was served, if that is a greatest flow of the text's table.
+fn expected_with_served_flow(call: &Call, theirs: &[u8]) -> Option<Vec<u8>> {
+    let served = &theirs[row_range(call, OUT)];
+    let end = u64::from_le_bytes(theirs[..8].try_into().ok()?) as usize;
+    let printed = desk_with_flow_of(served.get(..end)?, &call.text)?;
+    if printed.len() != end {
+        return None;
+    }
+    let mut made = call.clone();
+    made.out[..end].copy_from_slice(&printed);
+    Some(come_back(&nine(&[end as u32]), &made))
+}
+
+/// Where what came back differs first from what must come back, if it does. Which greatest flow comes back is free where
+/// a minimum is above 0: then it is judged by the definition, and all else must be equal.
+pub fn difference(call: &Call, ours: &[u8], theirs: &[u8]) -> Option<usize> {
+    if ours == theirs {
+        return None;
+    }
+    let with_their_flow = match call.kind {
+        Kind::Solve | Kind::SolveRecords => expected_with_flow(call, theirs),
+        Kind::Serve => expected_with_served_flow(call, theirs),
+        _ => None,
+    };
+    let ours = with_their_flow.as_deref().unwrap_or(ours);
+    (0..ours.len()).find(|k| ours[*k] != theirs[*k])
 }

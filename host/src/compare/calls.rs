@@ -1,8 +1,10 @@
 //! Random calls of solving and reading by place on lent rows.
-use super::caller::{Call, Kind};
+use super::caller::{Call, Kind, Numbers};
 use super::random::Random;
 use super::tables::{put_fault, random_table, Fault, OwnTable, FAULTS};
+use super::walks::{put_any_minimums, put_kept_minimums};
 use crate::refusal::Name;
+use crate::table::MOST_CAPACITY;
 
 /// The distance of two stamps of which neither is the older.
 const HALF: u32 = 1 << 31;
@@ -39,12 +41,13 @@ fn odd_marks(random: &mut Random, need: u64) -> Vec<u8> {
     (0..row_length(random, need)).map(|_| odd_mark(random)).collect()
 }
 
-/// Shortens one of the three arc rows, or makes it longer.
+/// Shortens one of the four arc rows, or makes it longer.
 pub fn part_rows(random: &mut Random, table: &mut OwnTable) {
-    let row = match random.between(0, 2) {
+    let row = match random.between(0, 4) {
         0 => &mut table.tails,
         1 => &mut table.heads,
-        _ => &mut table.capacities,
+        2 => &mut table.capacities,
+        _ => &mut table.minimums,
     };
     if random.once_in(2) {
         row.push(1);
@@ -56,6 +59,11 @@ pub fn part_rows(random: &mut Random, table: &mut OwnTable) {
 /// A table to call with: fine, or with some faults; with 4,097 arcs only now and then, since they are long to send.
 fn called_table(random: &mut Random) -> OwnTable {
     let mut table = random_table(random);
+    match random.between(0, 19) {
+        0 => put_any_minimums(random, &mut table),
+        1..=4 => put_kept_minimums(random, &mut table),
+        _ => {}
+    }
     if random.once_in(3) {
         for _ in 0..random.between(1, 3) {
             let fault = random.one_of(&FAULTS);
@@ -157,9 +165,61 @@ fn distance(refusal: u64, place: u64) -> Option<String> {
     is_bound.then(|| format!("{} at {place}", name.word()))
 }
 
-/// What a call brings: how it ended, and a distance of stamps.
-pub fn brought(call: &Call, numbers: &[u64; 9]) -> Vec<String> {
+/// Whether the minimums row alone differs in length from the others, and how.
+fn minimums_beside(table: &OwnTable) -> Option<String> {
+    let [tails, heads, capacities, minimums] = table.rows().map(Vec::len);
+    let alone = tails == heads && tails == capacities && tails != minimums;
+    let told = if minimums > tails { "longer" } else { "shorter" };
+    alone.then(|| format!("minimums row alone {told}"))
+}
+
+/// Which faults the first faulty arc has from its capacity on, where it has no other.
+fn faults_of_numbers(table: &OwnTable, place: usize) -> Option<String> {
+    let (capacity, minimum) = (table.capacities[place], table.minimums[place]);
+    match (capacity > MOST_CAPACITY, minimum > capacity) {
+        (true, true) => Some("CAPACITY and MINIMUM".to_string()),
+        (false, true) if minimum == capacity + 1 => Some("minimum one above its capacity".to_string()),
+        (false, true) if minimum == u32::MAX => Some("minimum 4294967295".to_string()),
+        _ => None,
+    }
+}
+
+/// What a solved table with minimums brings.
+fn brought_by_minimums(table: &OwnTable, value: i64) -> Vec<String> {
+    let sign = match value {
+        0 => "0",
+        1.. => "above 0",
+        _ => "below 0",
+    };
+    let full = |place: usize| table.minimums[place] > 0 && table.minimums[place] == table.capacities[place];
+    let mut things = vec![format!("minimums and a value {sign}")];
+    if (0..table.arcs()).any(full) {
+        things.push("minimum equal to its capacity".to_string());
+    }
+    things
+}
+
+/// What the minimums of a call bring.
+fn brought_by_bounds(call: &Call, numbers: &Numbers) -> Vec<String> {
+    let refusal = numbers[0];
+    let is = |name: Name| refusal == u64::from(name.number());
+    if is(Name::Rows) {
+        minimums_beside(&call.table).into_iter().collect()
+    } else if is(Name::Capacity) || is(Name::Minimum) {
+        faults_of_numbers(&call.table, numbers[1] as usize)
+            .into_iter()
+            .collect()
+    } else if refusal == 0 && call.kind != Kind::ReadPlace && call.table.lent().is_bounded() {
+        brought_by_minimums(&call.table, numbers[3] as i64)
+    } else {
+        Vec::new()
+    }
+}
+
+/// What a call brings: how it ended, what its minimums were, and a distance of stamps.
+pub fn brought(call: &Call, numbers: &Numbers) -> Vec<String> {
     let mut things = vec![called(call.kind, numbers[0])];
+    things.extend(brought_by_bounds(call, numbers));
     if call.kind == Kind::ReadPlace {
         things.extend(distance(numbers[0], numbers[1]));
     }
@@ -167,13 +227,20 @@ pub fn brought(call: &Call, numbers: &[u64; 9]) -> Vec<String> {
 }
 
 /// What every comparison of calls must have seen: an answer and each refusal of each call (records never have ROWS),
-/// and the least and the greatest distance of stamps.
+/// each case of minimums, and the least and the greatest distance of stamps.
 pub fn wanted() -> Vec<String> {
-    let mut wanted: Vec<String> = (0..=8).map(|number| called(Kind::Solve, number)).collect();
-    let of_records = (0..=8).filter(|number| *number != u64::from(Name::Rows.number()));
+    let solved = (0..=8).chain([19, 20]);
+    let of_records = solved
+        .clone()
+        .filter(|number| *number != u64::from(Name::Rows.number()));
+    let read = (0..=12).chain([19]);
+    let mut wanted: Vec<String> = solved.map(|number| called(Kind::Solve, number)).collect();
     wanted.extend(of_records.map(|number| called(Kind::SolveRecords, number)));
-    wanted.extend((0..=12).map(|number| called(Kind::ReadPlace, number)));
-    let distances = "STALE at 1,STALE at 2147483647,UNORDERED at 0,AHEAD at 1,AHEAD at 2147483647";
-    wanted.extend(distances.split(',').map(str::to_string));
+    wanted.extend(read.map(|number| called(Kind::ReadPlace, number)));
+    let things = "STALE at 1,STALE at 2147483647,UNORDERED at 0,AHEAD at 1,AHEAD at 2147483647,\
+        minimums row alone longer,minimums row alone shorter,CAPACITY and MINIMUM,minimum one above its capacity,\
+        minimum 4294967295,minimum equal to its capacity,minimums and a value above 0,minimums and a value 0,\
+        minimums and a value below 0";
+    wanted.extend(things.split(',').map(str::to_string));
     wanted
 }

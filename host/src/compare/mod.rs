@@ -9,15 +9,16 @@ pub mod readings;
 pub mod spacing;
 pub mod tables;
 pub mod texts;
+pub mod walks;
 
-use self::caller::{expected, sent, Call};
+use self::caller::{difference, expected, sent, Call, Numbers};
 use self::random::Random;
 use self::texts::random_text;
-use crate::desk::desk;
+use crate::desk::{desk, is_printed, longest_with_any_flow};
 use crate::refusal::Name;
 use std::collections::BTreeMap;
 use std::io::{Read, Write};
-use std::process::{Child, Command, Stdio};
+use std::process::{Child, ChildStdin, ChildStdout, Command, Stdio};
 use std::thread;
 
 /// How many cases, from which seed, and the words of the command that is compared with.
@@ -108,13 +109,14 @@ fn compare_text(comparison: &Comparison, index: u64, seen: &mut Seen) {
     let (text, brought) = random_text(comparison.seed, index);
     let ours = desk(&text);
     let theirs = printed(&comparison.command, &text);
-    if ours != theirs {
+    if !is_printed(&theirs, &text) {
         seen.differing.push(index);
         tell_difference(&format!("text {index} at seed {}", comparison.seed), &ours, &theirs);
     }
     let outcome = outcome(&ours);
     if outcome == "solved" {
         seen.count_all(spacing::runs_met(&text));
+        seen.count_all(brought_by_minimums(&text, &ours));
     }
     seen.count(outcome);
     seen.count(format!("of {} bytes", length_class(text.len())));
@@ -124,6 +126,18 @@ fn compare_text(comparison: &Comparison, index: u64, seen: &mut Seen) {
     }
 }
 
+/// What the minimums of a solved text bring.
+fn brought_by_minimums(text: &[u8], ours: &[u8]) -> Vec<String> {
+    let mut things = Vec::new();
+    if longest_with_any_flow(text).is_some() {
+        things.push("solved with minimums".to_string());
+    }
+    if ours.windows(7).any(|bytes| bytes == b"value=-") {
+        things.push("value below 0".to_string());
+    }
+    things
+}
+
 /// Compares what the desk printed for a text with what it prints for the text with other separators.
 fn compare_twin(comparison: &Comparison, index: u64, text: &[u8], theirs: &[u8], seen: &mut Seen) {
     let random = &mut Random::of_case(!comparison.seed, index);
@@ -131,7 +145,7 @@ fn compare_twin(comparison: &Comparison, index: u64, text: &[u8], theirs: &[u8],
         return;
     };
     let of_twin = printed(&comparison.command, &twin);
-    if of_twin != theirs || of_twin != desk(&twin) {
+    if of_twin != theirs || !is_printed(&of_twin, &twin) {
         seen.differing.push(index);
         tell_difference(
             &format!("the twin of text {index} at seed {}", comparison.seed),
@@ -182,8 +196,12 @@ pub fn compare_texts(comparison: &Comparison) -> Seen {
 /// desk's bound, each run of separators in a solved text, and twins of solved and refused texts.
 pub fn wanted_of_texts() -> Vec<String> {
     use Name::*;
-    let names = [Nodes, Arcs, Ends, Node, Loop, Capacity, Line, Count, Long];
-    let mut wanted = vec!["solved".to_string()];
+    let names = [
+        Nodes, Arcs, Ends, Node, Loop, Capacity, Line, Count, Long, Minimum, Impossible,
+    ];
+    let mut wanted = ["solved", "solved with minimums", "value below 0"]
+        .map(str::to_string)
+        .to_vec();
     wanted.extend(names.map(|name| name.word().to_string()));
     wanted.extend(["0", "65536", "65537", "more"].map(|length| format!("of {length} bytes")));
     wanted.extend(texts::wanted());
@@ -198,7 +216,7 @@ pub fn wanted_of_texts() -> Vec<String> {
 pub struct Calls {
     pub what: &'static str,
     pub random: fn(u64, u64) -> Call,
-    pub brought: fn(&Call, &[u64; 9]) -> Vec<String>,
+    pub brought: fn(&Call, &Numbers) -> Vec<String>,
     pub wanted: fn() -> Vec<String>,
     pub enough: u64,
 }
@@ -230,30 +248,71 @@ pub const OPENINGS: Calls = Calls {
     enough: ENOUGH,
 };
 
+/// A caller that runs, its input and output held by us.
+struct Running {
+    caller: Child,
+    to: ChildStdin,
+    from: ChildStdout,
+}
+
+impl Running {
+    /// Starts the caller.
+    fn start(command: &[String]) -> Running {
+        let mut caller = started(command);
+        let to = caller.stdin.take().expect("its input is ours");
+        let from = caller.stdout.take().expect("its output is ours");
+        Running { caller, to, from }
+    }
+
+    /// Makes a call: the numbers that must come back, and where what came back differs first, if it does.
+    fn compare(&mut self, call: &Call) -> (Numbers, Option<usize>) {
+        self.to.write_all(&sent(call)).expect("the caller takes the call");
+        let (numbers, ours) = expected(call);
+        let mut theirs = vec![0; ours.len()];
+        self.from.read_exact(&mut theirs).expect("the caller answers");
+        (numbers, difference(call, &ours, &theirs))
+    }
+
+    /// Waits for the caller's good end.
+    fn end(mut self) {
+        drop(self.to);
+        let ended = self.caller.wait().expect("the caller ends");
+        assert!(ended.success(), "the caller ends well");
+    }
+}
+
 /// Makes each call through the caller, and compares all that comes back.
 pub fn compare_calls(calls: &Calls, comparison: &Comparison) -> Seen {
-    let mut caller = started(&comparison.command);
-    let mut to = caller.stdin.take().expect("its input is ours");
-    let mut from = caller.stdout.take().expect("its output is ours");
+    let mut caller = Running::start(&comparison.command);
     let mut seen = Seen::default();
     for index in 0..comparison.count {
         let call = (calls.random)(comparison.seed, index);
-        to.write_all(&sent(&call)).expect("the caller takes the call");
-        let (numbers, ours) = expected(&call);
-        let mut theirs = vec![0; ours.len()];
-        from.read_exact(&mut theirs).expect("the caller answers");
-        if ours != theirs {
+        let (numbers, difference) = caller.compare(&call);
+        if let Some(at) = difference {
             seen.differing.push(index);
-            let at = (0..ours.len()).find(|k| ours[*k] != theirs[*k]).unwrap_or(0);
-            println!(
-                "call {index} at seed {} differs, first at byte {at} of the answer",
-                comparison.seed
-            );
+            let seed = comparison.seed;
+            println!("call {index} at seed {seed} differs, first at byte {at} of the answer");
         }
         seen.count_all((calls.brought)(&call, &numbers));
     }
-    drop(to);
-    let ended = caller.wait().expect("the caller ends");
-    assert!(ended.success(), "the caller ends well");
+    caller.end();
     seen
+}
+
+/// Makes calls that have names through the caller, and compares all that comes back: how each must end, after its name,
+/// and how many differed.
+pub fn compare_named(calls: &[(String, Call)], command: &[String]) -> (Vec<String>, usize) {
+    let mut caller = Running::start(command);
+    let mut ends = Vec::new();
+    let mut differing = 0;
+    for (name, call) in calls {
+        let (numbers, difference) = caller.compare(call);
+        if let Some(at) = difference {
+            differing += 1;
+            println!("{name}: differs, first at byte {at} of the answer");
+        }
+        ends.push(format!("{name}: refusal={} place={} ", numbers[0], numbers[1]));
+    }
+    caller.end();
+    (ends, differing)
 }

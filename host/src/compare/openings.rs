@@ -1,8 +1,9 @@
 //! Random openings of a place of a solved table.
-use super::caller::{Call, Kind};
+use super::caller::{Call, Kind, Numbers};
 use super::calls::{called, odd_mark, odd_number, part_rows, row_length};
 use super::random::Random;
 use super::tables::{put_fault, random_table, Fault, OwnTable, FAULTS};
+use super::walks::{add_ring, fill_some_chain, put_any_minimums, put_kept_minimums};
 use crate::opening::{
     distances_to_sink, fill, fill_chains, is_conserved, next_chain, next_places, why_not_maximum, Chain, NotMaximum,
 };
@@ -11,92 +12,6 @@ use crate::run::{away, run, Lists};
 use crate::side::side;
 use crate::solve::{has_room, work_need};
 use crate::table::{check, Table, MOST_CAPACITY};
-
-/// The least residual on a walk from a node, and where the walk ends.
-fn walked(table: &Table, flow: &[u32], start: usize, places: &[usize]) -> (u32, usize) {
-    let mut least = u32::MAX;
-    let mut node = start;
-    for place in places {
-        let arc = away(table, flow, node, *place);
-        least = least.min(arc.residual);
-        node = arc.far_end;
-    }
-    (least, node)
-}
-
-/// Moves an amount along a walk from a node.
-fn move_along(table: &Table, flow: &mut [u32], start: usize, places: &[usize], amount: u32) {
-    let mut node = start;
-    for place in places {
-        let arc = away(table, flow, node, *place);
-        if table.tails[*place] as usize == node {
-            flow[*place] += amount;
-        } else {
-            flow[*place] -= amount;
-        }
-        node = arc.far_end;
-    }
-}
-
-/// Some place away from a node with residual, other than the place that was walked before.
-fn some_residual(random: &mut Random, table: &Table, lists: &Lists, flow: &[u32], walk: &Walk) -> Option<usize> {
-    let node = *walk.nodes.last()?;
-    let places = lists.of(node).iter().map(|place| *place as usize);
-    let is_new = |place: &usize| walk.places.last() != Some(place);
-    let residual: Vec<usize> = places
-        .filter(|place| is_new(place) && away(table, flow, node, *place).residual > 0)
-        .collect();
-    (!residual.is_empty()).then(|| random.one_of(&residual))
-}
-
-/// A walk over residual arcs: its nodes, and the places between them.
-struct Walk {
-    nodes: Vec<usize>,
-    places: Vec<usize>,
-}
-
-/// Walks at random from a node until a node comes again or nothing leads on; tells where that node came first.
-fn random_walk(random: &mut Random, table: &Table, flow: &[u32], start: usize) -> (Walk, Option<usize>) {
-    let lists = Lists::new(table);
-    let mut walk = Walk {
-        nodes: vec![start],
-        places: Vec::new(),
-    };
-    while let Some(place) = some_residual(random, table, &lists, flow, &walk) {
-        let next = away(table, flow, walk.nodes[walk.nodes.len() - 1], place).far_end;
-        walk.places.push(place);
-        let earlier = walk.nodes.iter().position(|node| *node == next);
-        if earlier.is_some() {
-            return (walk, earlier);
-        }
-        walk.nodes.push(next);
-    }
-    (walk, None)
-}
-
-/// Moves some flow round a ring of residual arcs, if a walk finds one.
-fn add_ring(random: &mut Random, table: &Table, flow: &mut [u32]) {
-    let start = random.between(1, table.n) as usize;
-    let (walk, earlier) = random_walk(random, table, flow, start);
-    if let Some(first) = earlier {
-        let ring = &walk.places[first..];
-        let (least, _) = walked(table, flow, walk.nodes[first], ring);
-        let some = random.between(1, least);
-        let amount = random.one_of(&[1, some, least]);
-        move_along(table, flow, walk.nodes[first], ring, amount);
-    }
-}
-
-/// Fills the first part of a random walk from the source that meets the sink, if it does.
-fn fill_some_chain(random: &mut Random, table: &Table, flow: &mut [u32]) {
-    let source = table.s as usize;
-    let (walk, _) = random_walk(random, table, flow, source);
-    if let Some(end) = walk.nodes.iter().position(|node| *node == table.t as usize) {
-        let chain = &walk.places[..end];
-        let (least, _) = walked(table, flow, source, chain);
-        move_along(table, flow, source, chain, least);
-    }
-}
 
 /// A maximum flow of a table: the run's, or one by chains in another order; sometimes with rings.
 fn some_maximum_flow(random: &mut Random, table: &Table) -> Vec<u32> {
@@ -249,6 +164,11 @@ pub fn random_opening(seed: u64, index: u64) -> Call {
     let place = opened_place(random, &lent);
     let old = table.capacities.get(place as usize).copied();
     let capacity = new_capacity(random, old.unwrap_or(9));
+    match random.between(0, 39) {
+        0 | 1 => put_any_minimums(random, &mut table),
+        2 | 3 => put_kept_minimums(random, &mut table),
+        _ => {}
+    }
     if random.once_in(8) {
         put_table_fault(random, &mut table);
     }
@@ -270,6 +190,9 @@ pub fn random_opening(seed: u64, index: u64) -> Call {
 fn faults(call: &Call, table: &Table) -> Vec<String> {
     let old = table.capacities.get(call.place as usize);
     let mut faults = Vec::new();
+    if table.is_bounded() {
+        faults.push(Name::Bounded.word().to_string());
+    }
     if old.is_none() {
         faults.push(Name::Place.word().to_string());
     }
@@ -279,7 +202,7 @@ fn faults(call: &Call, table: &Table) -> Vec<String> {
     if old.is_some_and(|old| call.capacity < *old) {
         faults.push(Name::Lower.word().to_string());
     }
-    if why_not_maximum(table, &call.flow[..table.arcs()]).is_some() {
+    if !table.is_bounded() && why_not_maximum(table, &call.flow[..table.arcs()]).is_some() {
         faults.push(Name::NotMax.word().to_string());
     }
     faults
@@ -370,7 +293,7 @@ fn lacks_one_of_work(call: &Call, table: &Table) -> bool {
 }
 
 /// What an opening brings: how it ended, what was wrong with it, and what its chains were.
-pub fn brought(call: &Call, numbers: &[u64; 9]) -> Vec<String> {
+pub fn brought(call: &Call, numbers: &Numbers) -> Vec<String> {
     let table = call.table.lent();
     let mut things = vec![called(call.kind, numbers[0])];
     if check(&table, true).is_err() {
@@ -396,9 +319,9 @@ pub fn brought(call: &Call, numbers: &[u64; 9]) -> Vec<String> {
 /// What every comparison of openings must have seen: an answer and each refusal, faults together, each way to be no
 /// maximum flow, and each kind of opening.
 pub fn wanted() -> Vec<String> {
-    let refusals = (0..=8).chain([12, 22, 23]);
+    let refusals = (0..=8).chain([12, 19, 21, 22, 23]);
     let mut wanted: Vec<String> = refusals.map(|number| called(Kind::Open, number)).collect();
-    let things = "PLACE and CAPACITY,PLACE and NOTMAX,CAPACITY and NOTMAX,LOWER and NOTMAX,\
+    let things = "BOUNDED and PLACE,BOUNDED and CAPACITY,BOUNDED and LOWER,PLACE and CAPACITY,PLACE and NOTMAX,CAPACITY and NOTMAX,LOWER and NOTMAX,\
         NOTMAX by capacity alone,NOTMAX by capacity,NOTMAX by conservation,NOTMAX by reachability,\
         no chain,one chain,two chains,more chains,a chain among equals,a chain that takes flow back,\
         the run's flow,another maximum flow,equal capacity,stamp round 2^32,work row exact,work row one short,\

@@ -1,19 +1,20 @@
 //! Random readings of text into lent arc rows, and texts served into a lent row of bytes.
-use super::caller::{Call, Kind};
+use super::caller::{Call, Kind, Numbers};
 use super::calls::{called, odd_number};
 use super::outcome;
 use super::random::Random;
 use super::tables::{Fault, OwnTable, FAULTS};
 use super::texts::{random_text, text_with, Damage};
-use crate::desk::{desk, LONGEST_INPUT};
+use crate::desk::{desk, longest_with_any_flow, LONGEST_INPUT};
 use crate::refusal::{Name, Refusal};
 use crate::text::{read, Given, LONGEST_TEXT};
+use std::collections::BTreeSet;
 
 /// How many texts of about a megabyte there are; they come first.
 const LONGEST_CASES: u64 = 4;
 
-/// The names of the three arc rows.
-const ROW_NAMES: [&str; 3] = ["tails", "heads", "capacities"];
+/// The names of the four arc rows.
+const ROW_NAMES: [&str; 4] = ["tails", "heads", "capacities", "minimums"];
 
 /// How many lines of a text begin as those of arcs do.
 fn arc_lines(text: &[u8]) -> usize {
@@ -38,7 +39,7 @@ fn padded(random: &mut Random, text: &[u8], length: usize) -> Vec<u8> {
     padded
 }
 
-/// How long three arc rows are made: as long as they must be, longer, one of them short, or anyhow.
+/// How long four arc rows are made: as long as they must be, longer, one of them short, or anyhow.
 #[derive(Clone, Copy)]
 enum Lengths {
     Exact,
@@ -47,30 +48,31 @@ enum Lengths {
     Any,
 }
 
-/// The lengths of three arc rows for a text of m arcs.
-fn row_lengths(random: &mut Random, m: usize) -> [usize; 3] {
+/// The lengths of four arc rows for a text of m arcs.
+fn row_lengths(random: &mut Random, m: usize) -> [usize; 4] {
     use Lengths::*;
     let longer = |random: &mut Random| m + random.place(9);
     match random.one_of(&[Exact, Longer, Longer, ShortAlone, ShortAlone, Any]) {
-        Exact => [m; 3],
-        Longer => [0; 3].map(|_| longer(random)),
+        Exact => [m; 4],
+        Longer => [0; 4].map(|_| longer(random)),
         ShortAlone => {
-            let mut lengths = [0; 3].map(|_| longer(random));
+            let mut lengths = [0; 4].map(|_| longer(random));
             let below = random.one_of(&[1, 1, 2, m]);
-            lengths[random.place(3)] = m.saturating_sub(below);
+            lengths[random.place(4)] = m.saturating_sub(below);
             lengths
         }
-        Any => [0; 3].map(|_| random.place(2 * m + 2)),
+        Any => [0; 4].map(|_| random.place(2 * m + 2)),
     }
 }
 
-/// A table that is no more than its three rows of odd numbers.
-fn odd_rows(random: &mut Random, lengths: [usize; 3]) -> OwnTable {
-    let [tails, heads, capacities] = lengths.map(|length| (0..length).map(|_| odd_number(random)).collect());
+/// A table that is no more than its four rows of odd numbers.
+fn odd_rows(random: &mut Random, lengths: [usize; 4]) -> OwnTable {
+    let [tails, heads, capacities, minimums] = lengths.map(|length| (0..length).map(|_| odd_number(random)).collect());
     OwnTable {
         tails,
         heads,
         capacities,
+        minimums,
         ..OwnTable::without_arcs(0, 0, 0)
     }
 }
@@ -84,12 +86,24 @@ fn reading_of(random: &mut Random, text: Vec<u8>) -> Call {
     }
 }
 
-/// The call of serving a text into a row that is empty, short, exact or longer.
-fn serving_of(random: &mut Random, text: Vec<u8>) -> Call {
-    let need = desk(&text).len();
+/// The length of a row to serve a text into: 0, short, exact or longer. Where which flow is printed is free, the row
+/// ends before the flows or has room for any.
+fn served_length(random: &mut Random, text: &[u8]) -> usize {
+    let printed = desk(text);
+    let need = printed.len();
     let some = random.place(need);
     let more = random.place(40) + 2;
-    let length = random.one_of(&[0, 1, some, need - 1, need, need, need + 1, need + more]);
+    if let Some(longest) = longest_with_any_flow(text) {
+        let before = printed.len() - printed.rsplit(|byte| *byte == b'=').next().map_or(0, <[u8]>::len);
+        let short = random.place(before);
+        return random.one_of(&[before, short, longest, longest + more]);
+    }
+    random.one_of(&[0, 1, some, need - 1, need, need, need + 1, need + more])
+}
+
+/// The call of serving a text into a row that is empty, short, exact or longer.
+fn serving_of(random: &mut Random, text: Vec<u8>) -> Call {
+    let length = served_length(random, &text);
     Call {
         text,
         out: (0..length).map(|_| odd_number(random) as u8).collect(),
@@ -109,7 +123,7 @@ fn longest_case(random: &mut Random, index: u64) -> Call {
         1 => serving_of(random, text),
         _ => Call {
             text,
-            ..Call::of(Kind::ReadText, odd_rows(random, [3, 2, 4]))
+            ..Call::of(Kind::ReadText, odd_rows(random, [3, 2, 4, 2]))
         },
     }
 }
@@ -146,30 +160,32 @@ pub fn random_reading(seed: u64, index: u64) -> Call {
 
 /// What a text gives where every row has room.
 fn read_with_room(text: &[u8]) -> Result<Given, Refusal> {
-    let [mut tails, mut heads, mut capacities] = [0; 3].map(|_| vec![0; 4_096]);
-    read(text, &mut tails, &mut heads, &mut capacities)
+    let [mut tails, mut heads, mut capacities, mut minimums] = [0; 4].map(|_| vec![0; 4_096]);
+    read(text, &mut tails, &mut heads, &mut capacities, &mut minimums)
 }
 
-/// How three rows stand to m: which of them alone is short, or of what lengths they are.
-fn rows_beside(lengths: [usize; 3], m: usize) -> String {
-    let short: Vec<usize> = (0..3).filter(|row| lengths[*row] < m).collect();
-    let [tails, heads, capacities] = lengths;
+/// How four rows stand to m: which of them alone is short, or of what lengths they are.
+fn rows_beside(lengths: [usize; 4], m: usize) -> String {
+    let short: Vec<usize> = (0..4).filter(|row| lengths[*row] < m).collect();
+    let different: BTreeSet<usize> = lengths.into_iter().collect();
     match short[..] {
         [row] => format!("{} alone short", ROW_NAMES[row]),
         [_, _, ..] => "more than one row short".to_string(),
-        [] if lengths == [m; 3] => "rows exact".to_string(),
-        [] if tails != heads && tails != capacities && heads != capacities => "rows of three lengths".to_string(),
+        [] if lengths == [m; 4] => "rows exact".to_string(),
+        [] if different.len() == 4 => "rows of four lengths".to_string(),
         [] => "rows of some lengths".to_string(),
     }
 }
 
 /// What a reading of text brings: how it ended, the lengths of its rows, and what stood behind a short row.
-fn brought_by_reading(call: &Call, numbers: &[u64; 9]) -> Vec<String> {
-    let rows = &call.table;
-    let lengths = [rows.tails.len(), rows.heads.len(), rows.capacities.len()];
+fn brought_by_reading(call: &Call, numbers: &Numbers) -> Vec<String> {
+    let lengths = call.table.rows().map(Vec::len);
     let mut things = vec![called(call.kind, numbers[0])];
     match read_with_room(&call.text) {
-        Ok(given) => things.push(rows_beside(lengths, given.m as usize)),
+        Ok(given) => {
+            things.push(rows_beside(lengths, given.m as usize));
+            things.extend(longest_with_any_flow(&call.text).map(|_| "read minimums above 0".to_string()));
+        }
         Err(_) if numbers[0] == u64::from(Name::Room.number()) => things.push("ROOM before an arc's fault".to_string()),
         Err(_) => {}
     }
@@ -198,6 +214,9 @@ fn brought_by_serving(call: &Call) -> Vec<String> {
         format!("Serve {}", outcome(&printed)),
         format!("Serve into a row: {}", row_beside(call.out.len(), printed.len())),
     ];
+    if longest_with_any_flow(&call.text).is_some() {
+        things.push("Serve a table with minimums".to_string());
+    }
     if [LONGEST_INPUT, LONGEST_INPUT + 1].contains(&call.text.len()) {
         things.push(format!("served {} bytes", call.text.len()));
     }
@@ -205,7 +224,7 @@ fn brought_by_serving(call: &Call) -> Vec<String> {
 }
 
 /// What a reading of text or a served text brings.
-pub fn brought(call: &Call, numbers: &[u64; 9]) -> Vec<String> {
+pub fn brought(call: &Call, numbers: &Numbers) -> Vec<String> {
     match call.kind {
         Kind::Serve => brought_by_serving(call),
         _ => brought_by_reading(call, numbers),
@@ -216,13 +235,23 @@ pub fn brought(call: &Call, numbers: &[u64; 9]) -> Vec<String> {
 /// and each length of a text at its bound.
 pub fn wanted() -> Vec<String> {
     use Name::*;
-    let names = [Nodes, Arcs, Ends, Room, Node, Loop, Capacity, Line, Count, Long];
+    let names = [
+        Nodes, Arcs, Ends, Room, Node, Loop, Capacity, Minimum, Line, Count, Long,
+    ];
     let mut wanted = vec![called(Kind::ReadText, 0), "Serve solved".to_string()];
     wanted.extend(names.map(|name| called(Kind::ReadText, u64::from(name.number()))));
     let served = names.into_iter().filter(|name| *name != Room);
     wanted.extend(served.map(|name| format!("Serve {}", name.word())));
+    wanted.extend(
+        [
+            "Serve IMPOSSIBLE",
+            "Serve a table with minimums",
+            "read minimums above 0",
+        ]
+        .map(str::to_string),
+    );
     wanted.extend(ROW_NAMES.map(|name| format!("{name} alone short")));
-    wanted.extend(["rows exact", "rows of three lengths", "ROOM before an arc's fault"].map(str::to_string));
+    wanted.extend(["rows exact", "rows of four lengths", "ROOM before an arc's fault"].map(str::to_string));
     wanted.extend(["0", "1", "one short", "short", "exact", "longer"].map(|row| format!("Serve into a row: {row}")));
     wanted.extend([LONGEST_TEXT, LONGEST_TEXT + 1].map(|length| format!("read {length} bytes")));
     wanted.extend([LONGEST_INPUT, LONGEST_INPUT + 1].map(|length| format!("served {length} bytes")));

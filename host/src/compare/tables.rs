@@ -11,19 +11,20 @@ pub struct OwnTable {
     pub tails: Vec<u32>,
     pub heads: Vec<u32>,
     pub capacities: Vec<u32>,
+    pub minimums: Vec<u32>,
 }
 
 impl OwnTable {
     /// A table without arcs.
     pub fn without_arcs(n: u32, s: u32, t: u32) -> OwnTable {
-        let (tails, heads, capacities) = (Vec::new(), Vec::new(), Vec::new());
         OwnTable {
             n,
             s,
             t,
-            tails,
-            heads,
-            capacities,
+            tails: Vec::new(),
+            heads: Vec::new(),
+            capacities: Vec::new(),
+            minimums: Vec::new(),
         }
     }
 
@@ -45,31 +46,54 @@ impl OwnTable {
             tails: &self.tails,
             heads: &self.heads,
             capacities: &self.capacities,
+            minimums: &self.minimums,
         }
     }
 
-    /// The table's text, without comments.
+    /// The table's text, without comments: minimums only where they are above 0.
     pub fn text(&self) -> String {
         let mut text = format!("p max {} {}\nn {} s\nn {} t\n", self.n, self.arcs(), self.s, self.t);
         for k in 0..self.arcs() {
-            text.push_str(&format!(
-                "a {} {} {}\n",
-                self.tails[k], self.heads[k], self.capacities[k]
-            ));
+            let minimum = match self.minimums[k] {
+                0 => String::new(),
+                minimum => format!(" {minimum}"),
+            };
+            let (tail, head, capacity) = (self.tails[k], self.heads[k], self.capacities[k]);
+            text.push_str(&format!("a {tail} {head} {capacity}{minimum}\n"));
         }
         text
     }
 
-    /// How many arcs stand in all three rows.
+    /// The four arc rows.
+    pub fn rows(&self) -> [&Vec<u32>; 4] {
+        [&self.tails, &self.heads, &self.capacities, &self.minimums]
+    }
+
+    /// How many arcs stand in all four rows.
     pub fn arcs(&self) -> usize {
-        self.tails.len().min(self.heads.len()).min(self.capacities.len())
+        self.rows().map(Vec::len).into_iter().min().unwrap_or(0)
     }
 
     /// Adds an arc in the next place.
     pub fn add(&mut self, tail: u32, head: u32, capacity: u32) {
+        self.add_bounded(tail, head, capacity, 0);
+    }
+
+    /// Adds an arc with a minimum in the next place.
+    pub fn add_bounded(&mut self, tail: u32, head: u32, capacity: u32, minimum: u32) {
         self.tails.push(tail);
         self.heads.push(head);
         self.capacities.push(capacity);
+        self.minimums.push(minimum);
+    }
+
+    /// Makes a table of arcs that are given as tail, head, capacity and minimum.
+    pub fn with_bounded_arcs(n: u32, s: u32, t: u32, arcs: &[(u32, u32, u32, u32)]) -> OwnTable {
+        let mut table = OwnTable::without_arcs(n, s, t);
+        for (tail, head, capacity, minimum) in arcs {
+            table.add_bounded(*tail, *head, *capacity, *minimum);
+        }
+        table
     }
 }
 
@@ -172,16 +196,18 @@ pub enum Fault {
     Node,
     Loop,
     Capacity,
+    Minimum,
 }
 
 /// All faults of a table.
-pub const FAULTS: [Fault; 6] = [
+pub const FAULTS: [Fault; 7] = [
     Fault::Nodes,
     Fault::ManyArcs,
     Fault::Ends,
     Fault::Node,
     Fault::Loop,
     Fault::Capacity,
+    Fault::Minimum,
 ];
 
 /// Puts a fault into a table, or moves a number to its bound.
@@ -190,7 +216,7 @@ pub fn put_fault(random: &mut Random, table: &mut OwnTable, fault: Fault) {
         Fault::Nodes => table.n = random.one_of(&[0, 1, 2, 3, 511, 512, 513, 514, u32::MAX]),
         Fault::ManyArcs => fill_with_arcs(random, table),
         Fault::Ends => put_end(random, table),
-        Fault::Node | Fault::Loop | Fault::Capacity => put_arc_fault(random, table, fault),
+        Fault::Node | Fault::Loop | Fault::Capacity | Fault::Minimum => put_arc_fault(random, table, fault),
     }
 }
 
@@ -222,7 +248,7 @@ fn put_arc_fault(random: &mut Random, table: &mut OwnTable, fault: Fault) {
     let place = random.place(table.arcs());
     put_fault_at(random, table, place, fault);
     if random.once_in(3) {
-        let other = random.one_of(&[Fault::Node, Fault::Loop, Fault::Capacity]);
+        let other = random.one_of(&[Fault::Node, Fault::Loop, Fault::Capacity, Fault::Minimum]);
         put_fault_at(random, table, place, other);
     }
 }
@@ -234,6 +260,16 @@ fn put_fault_at(random: &mut Random, table: &mut OwnTable, place: usize, fault: 
         Fault::Capacity => {
             let bounds = [999_999, 1_000_000, 1_000_001, 1_000_002, u32::MAX];
             table.capacities[place] = random.one_of(&bounds);
+        }
+        Fault::Minimum => {
+            let capacity = table.capacities[place];
+            let bounds = [
+                capacity,
+                capacity.saturating_add(1),
+                capacity.saturating_add(1),
+                u32::MAX,
+            ];
+            table.minimums[place] = random.one_of(&bounds);
         }
         Fault::Loop => table.heads[place] = table.tails[place],
         _ => {

@@ -2,6 +2,7 @@
 use super::random::Random;
 use super::spacing::{self, field_places, gaps, respaced, run, run_of, without_last_separators};
 use super::tables::{put_fault, random_table, Fault, OwnTable, FAULTS};
+use super::walks::{put_any_minimums, put_kept_minimums};
 use crate::desk::LONGEST_INPUT;
 
 /// What is done to a text before it is given to the desk.
@@ -106,9 +107,20 @@ struct Draft {
 /// Bytes that stand in no line of its form.
 const ODD_BYTES: [u8; 13] = [b'\r', 0, 11, 12, 127, 128, 160, 194, 255, b'-', b'+', b'.', b'c'];
 
+/// Writes some minimums of 0 out: in no line, in some or in all.
+fn add_zeros(random: &mut Random, table: &OwnTable, lines: &mut [Vec<u8>]) {
+    let often = random.one_of(&[0, 0, 1, 2, 9]);
+    for (line, minimum) in lines.iter_mut().skip(3).zip(&table.minimums) {
+        if *minimum == 0 && often > 0 && random.once_in(often) {
+            line.extend_from_slice(b" 0");
+        }
+    }
+}
+
 /// The lines of a table, its n lines in either order.
 fn drafted(random: &mut Random, table: &OwnTable) -> Draft {
     let mut lines: Vec<Vec<u8>> = table.text().lines().map(|line| line.as_bytes().to_vec()).collect();
+    add_zeros(random, table, &mut lines);
     if random.once_in(2) {
         lines.swap(1, 2);
     }
@@ -274,7 +286,9 @@ fn odd_arc(random: &mut Random) -> Vec<u8> {
             "a ",
             "a 1 2",
             "a 1 2 ",
-            "a 1 2 3 4",
+            "a 1 2 3 4 5",
+            "a 1 2 3 04",
+            "a 1 2 3 4294967296",
             "a 1 2 x",
             "a1 2 3",
             "a\t1\t2 \t",
@@ -361,7 +375,13 @@ fn damage_text(random: &mut Random, draft: &mut Draft, damage: Damage) {
         }
         Damage::ArcTooMany => {
             let arc = random
-                .one_of(&["a 1 2 3", "a 0 0 4294967295", "a 2 1 0"])
+                .one_of(&[
+                    "a 1 2 3",
+                    "a 0 0 4294967295",
+                    "a 2 1 0",
+                    "a 1 2 3 2",
+                    "a 1 2 3 4294967295",
+                ])
                 .as_bytes()
                 .to_vec();
             let gap = random.one_of(&[gap, draft.lines.len()]);
@@ -490,12 +510,30 @@ fn bounds_met(table: &OwnTable) -> Vec<String> {
             met.push(format!("capacity {bound}"));
         }
     }
+    met.extend(minimums_met(table));
+    met
+}
+
+/// How the minimums of a table stand to its capacities, and whether minimums above 0 and of 0 are mixed.
+fn minimums_met(table: &OwnTable) -> Vec<String> {
+    let pairs = || table.minimums.iter().zip(&table.capacities);
+    let mut met = Vec::new();
+    if pairs().any(|(minimum, capacity)| *minimum > 0 && minimum == capacity) {
+        met.push("minimum equal to its capacity".to_string());
+    }
+    if pairs().any(|(minimum, capacity)| minimum.checked_sub(*capacity) == Some(1)) {
+        met.push("minimum one above its capacity".to_string());
+    }
+    if table.minimums.contains(&0) && table.minimums.iter().any(|minimum| *minimum > 0) {
+        met.push("arcs with and without a minimum".to_string());
+    }
     met
 }
 
 /// All that random texts are to bring: each damage, each way to part fields, and each bound.
 pub fn wanted() -> Vec<String> {
-    let bounds = "n 1,n 2,n 512,n 513,m 0,m 4096,m 4097,capacity 0,capacity 1000000,capacity 1000001";
+    let bounds = "n 1,n 2,n 512,n 513,m 0,m 4096,m 4097,capacity 0,capacity 1000000,capacity 1000001,\
+        minimum equal to its capacity,minimum one above its capacity,arcs with and without a minimum";
     let mut wanted: Vec<String> = bounds.split(',').map(str::to_string).collect();
     wanted.extend(damages().iter().map(|damage| format!("{damage:?}")));
     wanted.extend(SPACINGS.map(|spacing| format!("{spacing:?}")));
@@ -505,6 +543,11 @@ pub fn wanted() -> Vec<String> {
 /// A text with these damages, and what it brings: damages and bounds.
 pub fn text_with(random: &mut Random, damages: &[Damage]) -> (Vec<u8>, Vec<String>) {
     let mut table = random_table(random);
+    match random.between(0, 19) {
+        0 => put_any_minimums(random, &mut table),
+        1..=4 => put_kept_minimums(random, &mut table),
+        _ => {}
+    }
     for damage in damages {
         if let Damage::TableFault(fault) = damage {
             put_fault(random, &mut table, *fault);

@@ -52,7 +52,7 @@ pub fn solved(table: &OwnTable) -> Solved {
 }
 
 /// Makes the answer with a value, a scale, phases and the three counts.
-pub fn answer(value: u64, scale: u64, phases: u32, counts: [u64; 3]) -> Answer {
+pub fn answer(value: i64, scale: u64, phases: u32, counts: [u64; 3]) -> Answer {
     let [saturating, nonsaturating, relabels] = counts;
     Answer {
         refusal: 0,
@@ -86,11 +86,11 @@ pub fn reading(flow: u32, capacity: u32, crossing: u32) -> Reading {
     }
 }
 
-/// Reads a text into three arc rows of sevens with the given lengths.
-pub fn read_in(text: &[u8], lengths: [usize; 3]) -> (Result<Given, Refusal>, [Vec<u32>; 3]) {
-    let [mut tails, mut heads, mut capacities] = lengths.map(|length| vec![7; length]);
-    let found = read(text, &mut tails, &mut heads, &mut capacities);
-    (found, [tails, heads, capacities])
+/// Reads a text into four arc rows of sevens with the given lengths.
+pub fn read_in(text: &[u8], lengths: [usize; 4]) -> (Result<Given, Refusal>, [Vec<u32>; 4]) {
+    let [mut tails, mut heads, mut capacities, mut minimums] = lengths.map(|length| vec![7; length]);
+    let found = read(text, &mut tails, &mut heads, &mut capacities, &mut minimums);
+    (found, [tails, heads, capacities, minimums])
 }
 
 /// Gives the first 200 bytes of a text to print.
@@ -99,7 +99,7 @@ pub fn shown(text: &[u8]) -> String {
 }
 
 /// Checks that a text is refused and that arc rows of the given lengths are unchanged.
-pub fn assert_text_refused_in(text: &[u8], lengths: [usize; 3], name: Name, place: u32) {
+pub fn assert_text_refused_in(text: &[u8], lengths: [usize; 4], name: Name, place: u32) {
     let (found, rows) = read_in(text, lengths);
     assert_eq!(found, Err(Refusal { name, place }), "{}", shown(text));
     assert!(rows.iter().flatten().all(|number| *number == 7));
@@ -107,7 +107,7 @@ pub fn assert_text_refused_in(text: &[u8], lengths: [usize; 3], name: Name, plac
 
 /// Checks that a text is refused although every arc row has room.
 pub fn assert_text_refused(text: &[u8], name: Name, place: u32) {
-    assert_text_refused_in(text, [4_100, 4_101, 4_102], name, place);
+    assert_text_refused_in(text, [4_100, 4_101, 4_102, 4_103], name, place);
 }
 
 /// Takes two different nodes of 1 to n at random.

@@ -15,8 +15,13 @@ returns-2 c = let a = c .before .before .args in
 
 returns-3 : tie.Need-returns-3
 unfolding hasArcRoom
-returns-3 c = let a = c .before .before .args in
-    simp (le-leb (a .m) (a .tails) (c .before .if1 .left), le-leb (a .m) (a .heads) (c .if2 .left))
+returns-3 c = let a = c .before .before .before .args in
+    simp (le-leb (a .m) (a .tails) (c .before .before .if1 .left), le-leb (a .m) (a .heads) (c .before .if2 .left), lt-leb (a .m) (a .capacities) (c .if3 .taken))
+
+returns-4 : tie.Need-returns-4
+unfolding hasArcRoom
+returns-4 c = let a = c .before .before .before .args in
+    simp (le-leb (a .m) (a .tails) (c .before .before .if1 .left), le-leb (a .m) (a .heads) (c .before .if2 .left), le-leb (a .m) (a .capacities) (c .if3 .left))
 
 pub has-arc-room-spec : {M : Type 1} → statement M
-has-arc-room-spec = tie.close (tie.spec returns returns-2 returns-3)
+has-arc-room-spec = tie.close (tie.spec returns returns-2 returns-3 returns-4)
