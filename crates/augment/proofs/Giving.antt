@@ -9,10 +9,10 @@ use borrow.Author.Fill.{fill-more}
 use borrow.Author.Tests.{eq-eqb, ne-eqb}
 use Rattle.rows.specs.Row.{Node}
 use Rattle.reach.proofs.Visiting.{left-test}
-use Rattle.augment.specs.Ways.{otherEnd}
+use Rattle.shortest.specs.Ways.{otherEnd}
 use Rattle.augment.specs.Visits.{mayInto, Front, giveOf}
-use Rattle.augment.specs.Rows.{rowWays, Rows}
-use Rattle.augment.proofs.Ends.{rows-ends}
+use Rattle.shortest.specs.Rows.{rowWays, Rows}
+use Rattle.shortest.proofs.Ends.{rows-ends}
 
 -- ---- `look`: the arc taken from its head where node j is its tail, else from its tail
 

@@ -1,12 +1,6 @@
-pub mod Ends
-pub mod Laying
 pub mod Visiting
-pub mod Chains
-pub mod Filling
-pub mod Settling
 pub mod Walking
 pub mod Lists
 pub mod Giving
 pub mod Pouring
 pub mod Extending
-pub mod Instances

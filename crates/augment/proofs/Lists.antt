@@ -14,10 +14,10 @@ use Rattle.rows.proofs.Sums.{by-test, by-equal}
 use Rattle.table.specs.Table.{Table}
 use Rattle.arcs.specs.Residual.{touches, listTo, list}
 use Rattle.arcs.proofs.Members.{list-touches, touches-list, stands-member, member-stands}
-use Rattle.augment.specs.Ways.{Ways}
-use Rattle.augment.specs.Distance.{leadsBy, leadsTo, next}
+use Rattle.shortest.specs.Ways.{Ways}
+use Rattle.shortest.specs.Distance.{leadsBy, leadsTo, next}
 use Rattle.augment.specs.Visits.{ListOf}
-use Rattle.augment.specs.Rows.{rowWays, endsOf, Rows}
+use Rattle.shortest.specs.Rows.{rowWays, endsOf, Rows}
 use Rattle.augment.proofs.Walking.{lowest-unique}
 
 -- One place more at the end of a list: each from before stays, and the last is the new one.

@@ -13,11 +13,11 @@ use borrow.Author.Tests.{eqb-true, eqb-false, eq-eqb, ne-eqb}
 use Rattle.rows.specs.Row.{atPlace, atNode, Node}
 use Rattle.rows.proofs.Rows.{node-at}
 use Rattle.rows.proofs.Sums.{by-test, by-equal}
-use Rattle.augment.specs.Ways.{Ways, Leads, ahead, behind, otherEnd}
-use Rattle.augment.specs.Distance.{distances}
+use Rattle.shortest.specs.Ways.{Ways, Leads, ahead, behind, otherEnd}
+use Rattle.shortest.specs.Distance.{distances}
 use Rattle.augment.specs.Visits.{ListOf, mayInto, vacant, Front, front, given, giveOf, lookTo, Open}
-use Rattle.augment.proofs.Ends.{Ends, leads-within}
-use Rattle.augment.proofs.Laying.{Laid, set-there, set-elsewhere, start-laid, only-distances}
+use Rattle.shortest.proofs.Ends.{Ends, leads-within}
+use Rattle.shortest.proofs.Laying.{Laid, set-there, set-elsewhere, start-laid, only-distances}
 
 -- ---- how many numbers of a row are n
 

@@ -14,12 +14,12 @@ use Rattle.rows.proofs.Rows.{node-at}
 use Rattle.rows.proofs.Sums.{by-equal}
 use Rattle.rows.specs.Row.{atNode, Node}
 use Rattle.reach.proofs.Visiting.{left-test}
-use Rattle.augment.specs.Ways.{Ways, otherEnd}
-use Rattle.augment.specs.Distance.{leadsBy, leadsTo, lowest, next, chainFrom, distances}
-use Rattle.augment.specs.Rows.{rowWays, Rows}
-use Rattle.augment.proofs.Ends.{Ends, leads-within, rows-ends}
-use Rattle.augment.proofs.Laying.{Distances, distances-right}
-use Rattle.augment.proofs.Chains.{LowestIs, lowest-is, leadsTo-leads, next-found}
+use Rattle.shortest.specs.Ways.{Ways, otherEnd}
+use Rattle.shortest.specs.Distance.{leadsBy, leadsTo, lowest, next, chainFrom, distances}
+use Rattle.shortest.specs.Rows.{rowWays, Rows}
+use Rattle.shortest.proofs.Ends.{Ends, leads-within, rows-ends}
+use Rattle.shortest.proofs.Laying.{Distances, distances-right}
+use Rattle.shortest.proofs.Chains.{LowestIs, lowest-is, leadsTo-leads, next-found}
 
 -- ---- `far_of` and `leads`: away from the tail, away from the head, or neither
 

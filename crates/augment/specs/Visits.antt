@@ -7,7 +7,7 @@ use mathlib.Core.List.{List, [], _∷_}
 use lib.Dec.{eqb}
 use lib.ListN.{length, set}
 use Rattle.rows.specs.Row.{atPlace, atNode}
-use Rattle.augment.specs.Ways.{Ways, otherEnd}
+use Rattle.shortest.specs.Ways.{Ways, otherEnd}
 
 -- The places of the arcs that touch node i, rising.
 pub record ListOf (w : Ways) (i : ℕ) (list : List ℕ) : Type 0 where

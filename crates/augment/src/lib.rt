@@ -7,12 +7,12 @@ ghost use lib.Dec.{eqb};
 ghost use Rattle.rows.specs.Row.{atNode, Node};
 ghost use Rattle.arcs.specs.Residual.{Places};
 ghost use Rattle.arcs.specs.Work.{InWork};
-ghost use Rattle.augment.specs.Ways.{otherEnd};
-ghost use Rattle.augment.specs.Distance.{leadsBy, distances, next, chainFrom};
+ghost use Rattle.shortest.specs.Ways.{otherEnd};
+ghost use Rattle.shortest.specs.Distance.{leadsBy, distances, next, chainFrom};
 ghost use Rattle.augment.specs.Visits.{ListOf, mayInto, front, giveOf, lookTo, Open};
-ghost use Rattle.augment.specs.Chain.{Chain};
-ghost use Rattle.augment.specs.Augment.{boundNetwork, leastResidual, filled, Fits, reaches, chainIn, augmented, settled};
-ghost use Rattle.augment.specs.Rows.{rowWays, endsOf, Rows, Ready, Extended};
+ghost use Rattle.shortest.specs.Chain.{Chain};
+ghost use Rattle.shortest.specs.Augment.{boundNetwork, leastResidual, filled, Fits, reaches, chainIn, augmented, settled};
+ghost use Rattle.shortest.specs.Rows.{rowWays, endsOf, Rows, Ready, Extended};
 
 // Gives node i the distance d and notes it to be visited, where the way from it is open and it has no distance yet; answers how many are noted.
 fn give(

@@ -18,10 +18,10 @@ use Rattle.table.specs.Table.{tableOf, networkOf}
 use Rattle.table.specs.Accepted.{ArcRows}
 use Rattle.reach.specs.Side.{marked, sideFrom, sideOf}
 use Rattle.reach.proofs.Side.{length-of-side}
-use Rattle.augment.specs.Augment.{boundNetwork, settled}
-use Rattle.augment.specs.Rows.{Ready}
-use Rattle.augment.proofs.Instances.{rows-wide}
-use Rattle.augment.proofs.Settling.{FlowRow, settled-row, settled-long, settled-later, settled-answer}
+use Rattle.shortest.specs.Augment.{boundNetwork, settled}
+use Rattle.shortest.specs.Rows.{Ready}
+use Rattle.shortest.proofs.Instances.{rows-wide}
+use Rattle.shortest.proofs.Settling.{FlowRow, settled-row, settled-long, settled-later, settled-answer}
 use Rattle.start.specs.Sums.{sumAt}
 use Rattle.arcs.specs.Ends.{WideEnds}
 use Rattle.arcs.specs.Work.{workEnd}

@@ -11,9 +11,9 @@ use Rattle.rows.proofs.Rows.{length-places, at-places, zero-at, zeros-taken}
 use Rattle.network.specs.Network.{Network, Flow, Maximum, inflow, outflow}
 use Rattle.network.proofs.Notions.{Sound}
 use Rattle.network.proofs.Agree.{inflow-agree, outflow-agree}
-use Rattle.augment.specs.Augment.{boundNetwork, settled}
-use Rattle.augment.specs.Rows.{Ready}
-use Rattle.augment.proofs.Settling.{settled-answer}
+use Rattle.shortest.specs.Augment.{boundNetwork, settled}
+use Rattle.shortest.specs.Rows.{Ready}
+use Rattle.shortest.proofs.Settling.{settled-answer}
 use Rattle.start.specs.Sums.{sumAt}
 use Rattle.arcs.specs.Ends.{WideEnds}
 use Rattle.arcs.specs.Work.{workEnd}

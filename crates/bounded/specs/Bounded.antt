@@ -11,7 +11,7 @@ use Rattle.network.specs.Network.{Network, Flow, Cut, Reached, inflow, outflow,
 use Rattle.table.specs.Table.{capacity}
 use Rattle.minimums.specs.BoundedTable.{BoundedTable, minimum}
 use Rattle.reach.specs.Side.{marked, sideFrom}
-use Rattle.augment.specs.Augment.{boundNetwork}
+use Rattle.shortest.specs.Augment.{boundNetwork}
 
 -- The bounded table as a network. The residual from head to tail is flow less minimum.
 abbrev pub boundedNetwork : BoundedTable → Network

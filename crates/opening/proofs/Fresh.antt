@@ -15,8 +15,8 @@ use Rattle.run.specs.Phase.{run, value}
 use Rattle.run.specs.Demands.{Best}
 use Rattle.run.proofs.Networks.{accepted-sound}
 use Rattle.run.proofs.Answers.{answer-best, run-best}
-use Rattle.augment.specs.Augment.{settled, GoesOn}
-use Rattle.augment.proofs.Settling.{settled-answer, settled-goes-on, settled-long, answer-value, answer-side}
+use Rattle.shortest.specs.Augment.{settled, GoesOn}
+use Rattle.shortest.proofs.Settling.{settled-answer, settled-goes-on, settled-long, answer-value, answer-side}
 
 module _ (t : Table) (ok : Accepted t) (flow : List ℕ) (long : arcs t ≤ length flow) (valid : Flow (networkOf t) (atPlace flow)) where
   -- The network is sound.

@@ -17,9 +17,9 @@ use Rattle.arcs.specs.Work.{workNeed}
 use Rattle.solver.specs.declared.Answer.{Answer}
 use Rattle.solver.specs.Solving.{Left, left, answerWith}
 use Rattle.solver.proofs.Solved.{same-left}
-use Rattle.augment.specs.Augment.{boundNetwork, settled}
-use Rattle.augment.specs.Rows.{Ready}
-use Rattle.augment.proofs.Instances.{no-minimums, rows-wide}
+use Rattle.shortest.specs.Augment.{boundNetwork, settled}
+use Rattle.shortest.specs.Rows.{Ready}
+use Rattle.shortest.proofs.Instances.{no-minimums, rows-wide}
 use Rattle.stamps.specs.Stamp.{raised}
 use Rattle.opening.specs.Opening.{openedAnswer, wentOn}
 use Rattle.opening.proofs.Fresh.{last-best, last-long}

@@ -26,7 +26,7 @@ use Rattle.minimums.specs.BoundedTable.{BoundedTable}
 use Rattle.minimums.specs.Checks.{plainCheck}
 use Rattle.minimums.proofs.Accepting.{plain-accepts}
 use Rattle.solver.proofs.Solved.{Roomy, room-roomy}
-use Rattle.augment.specs.Augment.{settled}
+use Rattle.shortest.specs.Augment.{settled}
 use Rattle.opening.specs.Maximum.{MaximumFlow}
 use Rattle.opening.specs.Opening.{opened, changeVerdict, openingVerdict, wentOn, openingAs, opening, Reopens}
 use Rattle.opening.specs.Steps.{Opens}

@@ -18,7 +18,7 @@ use Rattle.table.specs.Accepted.{Accepted}
 use Rattle.reach.specs.Side.{marked, sideOf}
 use Rattle.reach.proofs.Side.{side-reached}
 use Rattle.run.proofs.Networks.{accepted-sound}
-use Rattle.augment.proofs.Settling.{maximum-stops, stopped-unreached}
+use Rattle.shortest.proofs.Settling.{maximum-stops, stopped-unreached}
 use Rattle.opening.specs.Maximum.{MaximumFlow, allBelow, isWithin, keeps, isKept, isFlow, isMaximum}
 
 -- A test that passes at every place below k passes at each of them,

@@ -6,8 +6,8 @@ use lib.ListN.{take}
 use Rattle.table.specs.Table.{Table, arcs, networkOf}
 use Rattle.minimums.specs.BoundedTable.{BoundedTable}
 use Rattle.solver.specs.Solving.{Left}
-use Rattle.augment.specs.Augment.{GoesOn}
-use Rattle.augment.proofs.Settling.{goes-on-same}
+use Rattle.shortest.specs.Augment.{GoesOn}
+use Rattle.shortest.proofs.Settling.{goes-on-same}
 use Rattle.opening.specs.Opening.{opening, Reopens}
 
 -- Two results that meet the promise are equal, the lent rows too.

@@ -20,7 +20,7 @@ use Rattle.solver.specs.declared.Answer.{Answer}
 use Rattle.solver.specs.Solving.{Left, left, hasRoom, refusal, answerWith}
 use Rattle.minimums.specs.BoundedTable.{BoundedTable}
 use Rattle.minimums.specs.Checks.{plainCheck}
-use Rattle.augment.specs.Augment.{settled, GoesOn}
+use Rattle.shortest.specs.Augment.{settled, GoesOn}
 use Rattle.opening.specs.Maximum.{MaximumFlow, isMaximum}
 
 -- The new table: the old one with the new capacity at the place.

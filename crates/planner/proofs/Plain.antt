@@ -16,7 +16,7 @@ use Rattle.table.specs.Accepted.{Accepted}
 use Rattle.reach.specs.Side.{sideOf, sideFrom}
 use Rattle.run.specs.Phase.{run, value}
 use Rattle.run.proofs.Answers.{run-best}
-use Rattle.augment.proofs.Instances.{no-minimums}
+use Rattle.shortest.proofs.Instances.{no-minimums}
 use Rattle.bounded.specs.Bounded.{boundedNetwork, GreatestBounded}
 use Rattle.minimums.specs.BoundedTable.{BoundedTable, AcceptedBounded}
 use Rattle.bounded.proofs.Largest.{greatest-bounded}

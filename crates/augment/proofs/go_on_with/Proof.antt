@@ -2,8 +2,8 @@
 use Prim.Native.Nat.{_≤_}
 use mathlib.Core.Path.{_≡_, refl, sym, subst, _∙_}
 use lib.ListN.{length}
-use Rattle.augment.specs.Augment.{boundNetwork, settled}
-use Rattle.augment.specs.Rows.{Ready}
+use Rattle.shortest.specs.Augment.{boundNetwork, settled}
+use Rattle.shortest.specs.Rows.{Ready}
 use Rattle.augment.proofs.Extending.{left, go-on-stops, go-on-same, go-on-ready, go-on-less}
 use Rattle.augment.proofs.go_on_with.Statement.{statement}
 use Rattle.augment.proofs.go_on_with.Tie as tie

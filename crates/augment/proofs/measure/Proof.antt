@@ -9,10 +9,10 @@ use Rattle.rows.specs.Row.{atPlace, atNode}
 use Rattle.rows.proofs.Rows.{node-at}
 use Rattle.arcs.specs.Residual.{list, Places}
 use Rattle.arcs.proofs.Members.{list-places}
-use Rattle.augment.specs.Ways.{Ways}
+use Rattle.shortest.specs.Ways.{Ways}
 use Rattle.augment.specs.Visits.{ListOf, front}
-use Rattle.augment.specs.Rows.{rowWays, endsOf}
-use Rattle.augment.proofs.Ends.{Ends, rows-ends}
+use Rattle.shortest.specs.Rows.{rowWays, endsOf}
+use Rattle.shortest.proofs.Ends.{Ends, rows-ends}
 use Rattle.augment.proofs.Lists.{listed}
 use Rattle.augment.proofs.Visiting.{Going, going-open, going-start, visit-turn, measured}
 use Rattle.augment.proofs.measure.Statement.{statement}

@@ -5,8 +5,8 @@ use native.Mathlib.Nat.{le-antisymm}
 use borrow.Author.Needs.{needs}
 use lib.ListN.{length}
 use Rattle.augment.specs.Visits.{front, lookTo}
-use Rattle.augment.specs.Rows.{rowWays}
-use Rattle.augment.proofs.Ends.{rows-ends}
+use Rattle.shortest.specs.Rows.{rowWays}
+use Rattle.shortest.proofs.Ends.{rows-ends}
 use Rattle.augment.proofs.Visiting.{Moved, moved-none, look-none, look-turn}
 use Rattle.augment.proofs.visit.Statement.{statement}
 use Rattle.augment.proofs.visit.Tie as tie

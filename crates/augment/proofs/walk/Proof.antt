@@ -6,7 +6,7 @@ use lib.ListN.{length}
 use borrow.Author.Needs.{needs}
 use Rattle.rows.specs.Row.{Node}
 use Rattle.augment.specs.Visits.{ListOf}
-use Rattle.augment.specs.Rows.{rowWays, endsOf}
+use Rattle.shortest.specs.Rows.{rowWays, endsOf}
 use Rattle.augment.proofs.Giving.{rows-kept}
 use Rattle.augment.proofs.Lists.{listed}
 use denote.Ref.{now}

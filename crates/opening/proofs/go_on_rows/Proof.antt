@@ -9,7 +9,7 @@ use Rattle.table.specs.Table.{tableOf, Table, arcs, networkOf}
 use Rattle.table.specs.Accepted.{Accepted}
 use Rattle.arcs.proofs.Work.{in-work-ends}
 use Rattle.start.specs.Sums.{sumAt}
-use Rattle.augment.specs.Augment.{settled}
+use Rattle.shortest.specs.Augment.{settled}
 use Rattle.opening.proofs.Going.{ready-rows, gone-row, last-sums, went-rows}
 use borrow.Author.Needs.{needs}
 use Rattle.opening.proofs.go_on_rows.Statement.{statement}

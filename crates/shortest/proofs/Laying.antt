@@ -12,9 +12,9 @@ use borrow.Author.Tests.{ltb-true, ltb-false, eqb-true, eq-eqb}
 use Rattle.rows.proofs.Rows.{node-at}
 use Rattle.rows.proofs.Sums.{by-test, by-equal}
 use Rattle.rows.specs.Row.{atNode, Node}
-use Rattle.augment.specs.Ways.{Ways, Leads, ahead, behind}
-use Rattle.augment.specs.Distance.{lay, layTo, rounds, distances}
-use Rattle.augment.proofs.Ends.{Ends, leads-within}
+use Rattle.shortest.specs.Ways.{Ways, Leads, ahead, behind}
+use Rattle.shortest.specs.Distance.{lay, layTo, rounds, distances}
+use Rattle.shortest.proofs.Ends.{Ends, leads-within}
 
 -- ---- one node's distance
 

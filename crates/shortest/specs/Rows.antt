@@ -8,8 +8,8 @@ use Rattle.rows.specs.Row.{Node, atPlace}
 use Rattle.network.specs.Network.{Network, Flow}
 use Rattle.table.specs.Table.{Table, tableOf}
 use Rattle.arcs.specs.Ends.{WideEnds}
-use Rattle.augment.specs.Ways.{Ways}
-use Rattle.augment.specs.Augment.{boundNetwork, waysIn, reaches, augmented}
+use Rattle.shortest.specs.Ways.{Ways}
+use Rattle.shortest.specs.Augment.{boundNetwork, waysIn, reaches, augmented}
 
 -- The residual arcs of five rows: tails, heads, capacities, minimums and flows.
 abbrev pub rowWays : (tails heads capacities minimums flow : List ℕ) → Ways

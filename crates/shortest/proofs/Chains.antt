@@ -10,11 +10,11 @@ use lib.Dec.{eqb, ltb}
 use borrow.Author.Tests.{ltb-true, ltb-false, eqb-true, eq-eqb, ne-eqb}
 use Rattle.rows.proofs.Sums.{by-test, by-equal, both-true}
 use Rattle.rows.specs.Row.{atNode, Node}
-use Rattle.augment.specs.Ways.{Ways, Leads, ahead, behind, otherEnd}
-use Rattle.augment.specs.Distance.{leadsBy, leadsTo, lowest, next, chainFrom}
-use Rattle.augment.specs.Chain.{Chain, arrived, step, Before, ended, lower, alike, FirstChain}
-use Rattle.augment.proofs.Ends.{Ends, leads-within}
-use Rattle.augment.proofs.Laying.{Distances}
+use Rattle.shortest.specs.Ways.{Ways, Leads, ahead, behind, otherEnd}
+use Rattle.shortest.specs.Distance.{leadsBy, leadsTo, lowest, next, chainFrom}
+use Rattle.shortest.specs.Chain.{Chain, arrived, step, Before, ended, lower, alike, FirstChain}
+use Rattle.shortest.proofs.Ends.{Ends, leads-within}
+use Rattle.shortest.proofs.Laying.{Distances}
 
 -- ---- the lowest place that passes
 

@@ -16,13 +16,13 @@ use Rattle.network.proofs.Cuts.{reached-answer}
 use Rattle.network.proofs.Gaps.{Valid, EndLabels, sink-unreached}
 use Rattle.reach.specs.Side.{marked, sideFrom}
 use Rattle.reach.proofs.Side.{side-reached}
-use Rattle.augment.specs.Ways.{ahead, behind}
-use Rattle.augment.specs.Chain.{Chain, arrived, step, FirstChain}
-use Rattle.augment.specs.Augment.{waysIn, residualFrom, leastWith, leastResidual, filled, Fits, distancesIn, reaches, chainIn, augmented, goOn, enough, settled, GoesOn, stops, fills}
-use Rattle.augment.proofs.Ends.{Ends}
-use Rattle.augment.proofs.Laying.{Distances, distances-right}
-use Rattle.augment.proofs.Chains.{chosen-is-first, chosen-long, first-chain-same}
-use Rattle.augment.proofs.Filling.{least-above, filled-long, fits-later, fits-flow, fits-value, shortest-fits}
+use Rattle.shortest.specs.Ways.{ahead, behind}
+use Rattle.shortest.specs.Chain.{Chain, arrived, step, FirstChain}
+use Rattle.shortest.specs.Augment.{waysIn, residualFrom, leastWith, leastResidual, filled, Fits, distancesIn, reaches, chainIn, augmented, goOn, enough, settled, GoesOn, stops, fills}
+use Rattle.shortest.proofs.Ends.{Ends}
+use Rattle.shortest.proofs.Laying.{Distances, distances-right}
+use Rattle.shortest.proofs.Chains.{chosen-is-first, chosen-long, first-chain-same}
+use Rattle.shortest.proofs.Filling.{least-above, filled-long, fits-later, fits-flow, fits-value, shortest-fits}
 
 -- The least residual, as it is found from the first arc's.
 least-is : (N : Network) (flow : List ℕ) (i k : ℕ) (ks : List ℕ) → leastResidual N flow i (k ∷ ks) ≤ leastWith N flow (residualFrom N flow i k) i (k ∷ ks)

@@ -17,11 +17,11 @@ use Rattle.rows.proofs.Rows.{place-set}
 use Rattle.network.specs.Network.{Network, Flow, inflow, outflow, nearEnd, farEnd, residualOver}
 use Rattle.network.proofs.Notions.{Sound, residual-over-ext}
 use Rattle.network.proofs.Push.{push-balance, moved-range}
-use Rattle.augment.specs.Augment.{moved, waysIn, wayFrom, residualFrom, farFrom, leastWith, leastResidual, residualsOf, movedAt, filled, Fits, at-sink, goes}
-use Rattle.augment.specs.Ways.{Leads, ahead, behind}
-use Rattle.augment.specs.Chain.{Chain, arrived, step}
-use Rattle.augment.proofs.Laying.{Distances}
-use Rattle.augment.proofs.Chains.{chain-long, leads-place}
+use Rattle.shortest.specs.Augment.{moved, waysIn, wayFrom, residualFrom, farFrom, leastWith, leastResidual, residualsOf, movedAt, filled, Fits, at-sink, goes}
+use Rattle.shortest.specs.Ways.{Leads, ahead, behind}
+use Rattle.shortest.specs.Chain.{Chain, arrived, step}
+use Rattle.shortest.proofs.Laying.{Distances}
+use Rattle.shortest.proofs.Chains.{chain-long, leads-place}
 
 -- ---- an open arc, taken from node i
 

@@ -7,8 +7,8 @@ use Rattle.rows.specs.Row.{atPlace}
 use Rattle.table.specs.Table.{tableOf, networkOf}
 use Rattle.table.specs.Accepted.{ArcRows}
 use Rattle.arcs.proofs.Ends.{ends-wide}
-use Rattle.augment.specs.Augment.{boundNetwork}
-use Rattle.augment.specs.Rows.{WideRows}
+use Rattle.shortest.specs.Augment.{boundNetwork}
+use Rattle.shortest.specs.Rows.{WideRows}
 
 -- Minimums that are all 0 give the network of the table.
 pub no-minimums : (n s t : ℕ) (tails heads capacities minimums : List ℕ) → ((k : ℕ) → atPlace minimums k ≡ 0)

@@ -1,0 +1,6 @@
+pub mod Ends
+pub mod Laying
+pub mod Chains
+pub mod Filling
+pub mod Settling
+pub mod Instances
