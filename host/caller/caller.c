@@ -1,20 +1,21 @@
 /* The caller: takes calls from standard input, makes them through the static libraries, and writes on standard output
    what came back and every lent row. Numbers are 32 bits and little-endian; marks, texts and what is served are bytes.
 
-   A call: kind (1 solve, 2 solve arc records, 3 read by place, 4 read a text, 5 serve a text, 6 open a place), n, s, t,
-   the table's stamp, the answer's stamp, the place, its new capacity, the lengths of the nine rows (tails, heads,
-   capacities, minimums, flow, side, work, text, out), then the rows. Numbers that a call doesn't have are 0, rows that
-   it doesn't have are empty. For arc records the first four rows have one length; the records are made of them here,
-   and the rows of the records afterwards.
-   What is written: nine 64-bit numbers (the answer's nine, the reading's five, the text's six or where the served bytes
-   end, then 0), then the nine rows, then 1 if nothing was written beside them. */
+   A call: kind (1 solve, 2 solve arc records, 3 read by place, 4 read a text, 5 serve a text, 6 open a place, 7 solve
+   and 8 read by place for the server), n, s, t, the table's stamp, the answer's stamp, the place, its new capacity, the
+   lengths of the ten rows (tails, heads, capacities, minimums, flow, side, work, text, out, flow bytes), then the rows.
+   Numbers that a call doesn't have are 0, rows that it doesn't have are empty. For arc records the first four rows have
+   one length; the records are made of them here, and the rows of the records afterwards. The server's calls take their
+   arcs from the row of the text, and write their result to the row out.
+   What is written: nine 64-bit numbers (the answer's nine, the reading's five, the text's six, where the served bytes
+   end or what a server's call returned, then 0), then the rows, then 1 if nothing was written beside them. */
 #include <stdint.h>
 #include <stdlib.h>
 #include <string.h>
 #include <unistd.h>
 
-enum { SOLVE = 1, SOLVE_RECORDS, READ_PLACE, READ_TEXT, SERVE, OPEN };
-enum { TAILS, HEADS, CAPACITIES, MINIMUMS, FLOW, SIDE, WORK, TEXT, OUT, ROWS };
+enum { SOLVE = 1, SOLVE_RECORDS, READ_PLACE, READ_TEXT, SERVE, OPEN, SERVER_SOLVE, SERVER_PLACE };
+enum { TAILS, HEADS, CAPACITIES, MINIMUMS, FLOW, SIDE, WORK, TEXT, OUT, FLOW_BYTES, ROWS };
 enum { KIND, NODES, SOURCE, SINK, STAMP, ANSWER_STAMP, PLACE, CAPACITY, LENGTHS, HEADER = LENGTHS + ROWS };
 enum { NUMBERS = 9, FENCE = 64, FENCE_BYTE = 0xA5 };
 
@@ -60,6 +61,14 @@ struct jorrabide_text jorrabide_read_text(
     uint32_t *minimums, size_t);
 size_t jorrabide_serve(const uint8_t *text, size_t, uint8_t *out, size_t);
 
+/* The booking server's calls. */
+uint64_t jorrabide_server_solve(
+    uint32_t n, uint32_t s, uint32_t t, uint32_t stamp, const uint8_t *arcs, size_t,
+    uint8_t *flow, size_t, uint8_t *side, size_t, uint8_t *result, size_t);
+uint64_t jorrabide_server_place(
+    uint32_t n, uint32_t s, uint32_t t, uint32_t stamp, const uint8_t *arcs, size_t, uint32_t answer_stamp,
+    const uint8_t *flow, size_t, const uint8_t *side, size_t, uint32_t place, uint8_t *result, size_t);
+
 /* A row as the calls take it: where it begins and its length. */
 #define LENT_NUMBERS(row) numbers(row), (row).length
 #define LENT_BYTES(row) bytes(row), (row).length
@@ -75,6 +84,7 @@ size_t jorrabide_serve(const uint8_t *text, size_t, uint8_t *out, size_t);
 
 struct row {
     unsigned char *memory;
+    size_t start;
     size_t bytes;
     size_t length;
 };
@@ -102,34 +112,37 @@ static void write_all(const void *from, size_t bytes) {
     }
 }
 
-/* A row in memory of its own, between two fences. */
+/* A row in memory of its own, between two fences. Rows of bytes begin at an odd address. */
 static struct row new_row(size_t length, size_t width) {
-    struct row row = {malloc(length * width + 2 * FENCE), length * width, length};
+    size_t start = width == 1 ? FENCE + 1 : FENCE;
+    struct row row = {malloc(start + length * width + FENCE), start, length * width, length};
     if (row.memory == NULL) exit(1);
-    memset(row.memory, FENCE_BYTE, row.bytes + 2 * FENCE);
+    memset(row.memory, FENCE_BYTE, start + row.bytes + FENCE);
     return row;
 }
 
 /* Reads a row. */
 static struct row read_row(size_t length, size_t width) {
     struct row row = new_row(length, width);
-    if (!read_all(row.memory + FENCE, row.bytes)) exit(1);
+    if (!read_all(row.memory + row.start, row.bytes)) exit(1);
     return row;
 }
 
 /* The bytes of a row. */
-static uint8_t *bytes(struct row row) { return row.memory + FENCE; }
+static uint8_t *bytes(struct row row) { return row.memory + row.start; }
 
 /* The numbers of a row. */
 static uint32_t *numbers(struct row row) { return (uint32_t *)bytes(row); }
 
 /* How many bytes a place of a row takes. */
-static size_t width(int row) { return row == SIDE || row == TEXT || row == OUT ? 1 : 4; }
+static size_t width(int row) { return row == SIDE || row == TEXT || row == OUT || row == FLOW_BYTES ? 1 : 4; }
 
 /* 1 if both fences of a row are as they were. */
 static int is_fenced(struct row row) {
+    for (size_t k = 0; k < row.start; k++)
+        if (row.memory[k] != FENCE_BYTE) return 0;
     for (size_t k = 0; k < FENCE; k++)
-        if (row.memory[k] != FENCE_BYTE || row.memory[FENCE + row.bytes + k] != FENCE_BYTE) return 0;
+        if (row.memory[row.start + row.bytes + k] != FENCE_BYTE) return 0;
     return 1;
 }
 
@@ -191,6 +204,20 @@ static void call_open(const uint32_t *call, const struct row *rows, uint64_t *re
     put_answer(jorrabide_open(TABLE_NUMBERS, TABLE_ROWS, call[PLACE], call[CAPACITY], SOLVING_ROWS), result);
 }
 
+/* Makes the server's call of solving. */
+static void call_server_solve(const uint32_t *call, const struct row *rows, uint64_t *result) {
+    result[0] = jorrabide_server_solve(
+        TABLE_NUMBERS, LENT_BYTES(rows[TEXT]), LENT_BYTES(rows[FLOW_BYTES]), LENT_BYTES(rows[SIDE]),
+        LENT_BYTES(rows[OUT]));
+}
+
+/* Makes the server's call of reading by place. */
+static void call_server_place(const uint32_t *call, const struct row *rows, uint64_t *result) {
+    result[0] = jorrabide_server_place(
+        TABLE_NUMBERS, LENT_BYTES(rows[TEXT]), call[ANSWER_STAMP], LENT_BYTES(rows[FLOW_BYTES]),
+        LENT_BYTES(rows[SIDE]), call[PLACE], LENT_BYTES(rows[OUT]));
+}
+
 int main(void) {
     uint32_t call[HEADER];
     while (read_all(call, sizeof call)) {
@@ -204,6 +231,8 @@ int main(void) {
             case READ_TEXT: call_read_text(rows, result); break;
             case SERVE: call_serve(rows, result); break;
             case OPEN: call_open(call, rows, result); break;
+            case SERVER_SOLVE: call_server_solve(call, rows, result); break;
+            case SERVER_PLACE: call_server_place(call, rows, result); break;
             default: return 1;
         }
         write_all(result, sizeof result);

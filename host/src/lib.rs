@@ -10,6 +10,7 @@ pub mod opening;
 pub mod reading;
 pub mod refusal;
 pub mod run;
+pub mod server;
 pub mod side;
 pub mod solve;
 pub mod table;

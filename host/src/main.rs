@@ -5,7 +5,7 @@ use judge::compare::caller::Call;
 use judge::compare::texts::random_text;
 use judge::compare::{
     compare_calls, compare_named, compare_texts, wanted_of_texts, Calls, Comparison, Seen, CALLS, ENOUGH, OPENINGS,
-    READINGS,
+    READINGS, SERVER,
 };
 use judge::desk::desk;
 use judge::families::{self, FAMILIES};
@@ -21,11 +21,11 @@ const USAGE: &str = "usage:
   judge family NUMBER N M                 the table of a family, from 1, as a text
   judge text SEED INDEX                   a text of the comparison
   judge texts COUNT SEED COMMAND WORD..   random texts through a desk
-  judge calls COUNT SEED COMMAND WORD..   random calls of solving and reading by place through a caller
-  judge readings COUNT SEED COMMAND WORD..
-                                          random readings of text, and served texts, through a caller
-  judge openings COUNT SEED COMMAND WORD..
-                                          random openings of a place through a caller";
+  judge KIND COUNT SEED COMMAND WORD..    random calls of a kind through a caller:
+    calls       solving and reading by place
+    readings    readings of text, and served texts
+    openings    openings of a place
+    server      the booking server's calls";
 
 /// Writes what the desk program prints for standard input.
 fn answer_input() -> io::Result<bool> {
@@ -158,6 +158,9 @@ fn run(arguments: &[&str]) -> io::Result<bool> {
         }
         ["openings", count, seed, command @ ..] if !command.is_empty() => {
             told_of_calls(&OPENINGS, comparison(count, seed, command)?)
+        }
+        ["server", count, seed, command @ ..] if !command.is_empty() => {
+            told_of_calls(&SERVER, comparison(count, seed, command)?)
         }
         _ => Err(io::Error::other(USAGE)),
     }

@@ -38,7 +38,7 @@ fn crosses(table: &Table, side: &[u8], place: usize) -> bool {
 }
 
 /// Reads the answer at a place or gives a refusal.
-fn try_read_place(
+pub fn try_read_place(
     table: &Table,
     stamp: u32,
     answer_stamp: u32,

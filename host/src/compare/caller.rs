@@ -4,6 +4,7 @@ use crate::bounded::is_greatest;
 use crate::desk::{desk_with_flow_of, serve};
 use crate::opening::{open, Opening};
 use crate::reading::read_place;
+use crate::server::{server_place, server_solve};
 use crate::solve::{solve, Answer};
 use crate::text;
 use std::ops::Range;
@@ -27,10 +28,13 @@ pub enum Kind {
     ReadText,
     Serve,
     Open,
+    ServerSolve,
+    ServerPlace,
 }
 
 /// A call: its numbers and all rows that are lent to it. Numbers that it doesn't have are 0, rows that it doesn't have
-/// are empty. Reading a text is lent the table's rows, to write into.
+/// are empty. Reading a text is lent the table's rows, to write into. The server's calls have their arcs in the row of the
+/// text, and their result in the row `out`.
 #[derive(Clone)]
 pub struct Call {
     pub kind: Kind,
@@ -44,6 +48,7 @@ pub struct Call {
     pub work: Vec<u32>,
     pub text: Vec<u8>,
     pub out: Vec<u8>,
+    pub flow_bytes: Vec<u8>,
 }
 
 impl Call {
@@ -61,6 +66,7 @@ impl Call {
             work: Vec::new(),
             text: Vec::new(),
             out: Vec::new(),
+            flow_bytes: Vec::new(),
         }
     }
 }
@@ -81,6 +87,7 @@ fn rows(call: &Call) -> Vec<(usize, Vec<u8>)> {
     rows.push(of_numbers(&call.work));
     rows.push(of_bytes(&call.text));
     rows.push(of_bytes(&call.out));
+    rows.push(of_bytes(&call.flow_bytes));
     rows
 }
 
@@ -180,6 +187,32 @@ fn make_serving(call: &mut Call) -> Numbers {
     nine(&[serve(&call.text, &mut call.out) as u32])
 }
 
+/// The n, s and t of a call.
+fn ends(call: &Call) -> [u32; 3] {
+    [call.table.n, call.table.s, call.table.t]
+}
+
+/// Nine numbers of which the first is the one that a server's call returned.
+fn returned(number: u64) -> Numbers {
+    let mut numbers = [0; NUMBERS];
+    numbers[0] = number;
+    numbers
+}
+
+/// Solves for the server: the returned number.
+fn make_server_solving(call: &mut Call) -> Numbers {
+    let (ends, arcs) = (ends(call), &call.text);
+    let (flow, side, result) = (&mut call.flow_bytes, &mut call.side, &mut call.out);
+    returned(server_solve(ends, call.stamp, arcs, flow, side, result))
+}
+
+/// Reads by place for the server: the returned number.
+fn make_server_reading(call: &mut Call) -> Numbers {
+    let (ends, stamps) = (ends(call), [call.stamp, call.answer_stamp]);
+    let (flow, side, result) = (&call.flow_bytes, &call.side, &mut call.out);
+    returned(server_place(ends, stamps, &call.text, flow, side, call.place, result))
+}
+
 /// Makes the call by the independent program: its nine numbers; the call's rows are changed as the call changes them.
 fn make(call: &mut Call) -> Numbers {
     match call.kind {
@@ -188,6 +221,8 @@ fn make(call: &mut Call) -> Numbers {
         Kind::ReadText => make_text_reading(call),
         Kind::Serve => make_serving(call),
         Kind::Open => make_opening(call),
+        Kind::ServerSolve => make_server_solving(call),
+        Kind::ServerPlace => make_server_reading(call),
     }
 }
 

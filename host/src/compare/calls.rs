@@ -57,7 +57,7 @@ pub fn part_rows(random: &mut Random, table: &mut OwnTable) {
 }
 
 /// A table to call with: fine, or with some faults; with 4,097 arcs only now and then, since they are long to send.
-fn called_table(random: &mut Random) -> OwnTable {
+pub fn called_table(random: &mut Random) -> OwnTable {
     let mut table = random_table(random);
     match random.between(0, 19) {
         0 => put_any_minimums(random, &mut table),
@@ -76,7 +76,7 @@ fn called_table(random: &mut Random) -> OwnTable {
 }
 
 /// The answer's stamp beside a table's: often the same, else few rebuilds away, at a bound of the ranges, or anywhere.
-fn stamp_beside(random: &mut Random, stamp: u32) -> u32 {
+pub fn stamp_beside(random: &mut Random, stamp: u32) -> u32 {
     let few = random.between(1, 5);
     let any = random.bits() as u32;
     let distance = random.one_of(&[0, 0, 0, 0, 0, 1, few, HALF - few, HALF - 1, HALF, any]);
@@ -88,7 +88,7 @@ fn stamp_beside(random: &mut Random, stamp: u32) -> u32 {
 }
 
 /// A place to ask for: mostly one of the table's.
-fn asked_place(random: &mut Random, arcs: usize) -> u32 {
+pub fn asked_place(random: &mut Random, arcs: usize) -> u32 {
     let m = arcs as u32;
     match random.between(0, 9) {
         0 => m,
@@ -157,7 +157,7 @@ pub fn called(kind: Kind, refusal: u64) -> String {
 }
 
 /// How far the stamps are from each other, as it is told where it is a bound of the ranges.
-fn distance(refusal: u64, place: u64) -> Option<String> {
+pub fn distance(refusal: u64, place: u64) -> Option<String> {
     let name = [Name::Stale, Name::Unordered, Name::Ahead]
         .into_iter()
         .find(|name| u64::from(name.number()) == refusal)?;

@@ -6,6 +6,7 @@ pub mod calls;
 pub mod openings;
 pub mod random;
 pub mod readings;
+pub mod serving;
 pub mod spacing;
 pub mod tables;
 pub mod texts;
@@ -246,6 +247,15 @@ pub const OPENINGS: Calls = Calls {
     brought: openings::brought,
     wanted: openings::wanted,
     enough: ENOUGH,
+};
+
+/// The booking server's calls.
+pub const SERVER: Calls = Calls {
+    what: "calls of the server",
+    random: serving::random_server_call,
+    brought: serving::brought,
+    wanted: serving::wanted,
+    enough: 10_000,
 };
 
 /// A caller that runs, its input and output held by us.

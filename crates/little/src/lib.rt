@@ -1,0 +1,1 @@
+// Little-endian numbers: definitions and lemmas only, no code.

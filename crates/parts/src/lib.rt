@@ -1,0 +1,1 @@
+// A row with a new part: definitions and lemmas only, no code.

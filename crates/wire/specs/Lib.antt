@@ -1,0 +1,4 @@
+pub mod Rows
+pub mod Solve
+pub mod Place
+pub mod Examples

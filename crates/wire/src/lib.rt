@@ -1,0 +1,1 @@
+// The byte rows of the booking server: definitions and lemmas only, no code.
