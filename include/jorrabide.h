@@ -72,6 +72,46 @@ struct jorrabide_answer jorrabide_open(
     uint8_t *side, size_t side_length,
     uint32_t *work, size_t work_length);
 
+/* What writing a solution returns: a refusal's number and place and 0, or refusal 0 and how many bytes were filled. */
+struct jorrabide_written {
+    uint32_t refusal;
+    uint32_t place;
+    size_t filled;
+};
+
+/* What reading a solution back returns: a refusal's number and place and 0, or refusal 0 and the value. */
+struct jorrabide_read_back {
+    uint32_t refusal;
+    uint32_t place;
+    uint64_t value;
+};
+
+/* Writes the solution text of a value and a flow row: `s VALUE`, then `f TAIL HEAD FLOW` for each arc by place, each line ended by LF, to the
+   front of the text row; the bytes after it stay. The text row must have room for this very text: 73,741 bytes hold that of any flow within
+   the capacities. A minimum above 0 is BOUNDED (21). SOLUTION (16) names the first flow above its capacity, or the number of arcs for a value
+   above 4,096,000,000. The value is not compared with the flows. */
+struct jorrabide_written jorrabide_write_solution(
+    uint32_t n, uint32_t s, uint32_t t,
+    const uint32_t *tails, size_t tails_length,
+    const uint32_t *heads, size_t heads_length,
+    const uint32_t *capacities, size_t capacities_length,
+    const uint32_t *minimums, size_t minimums_length,
+    uint64_t value,
+    const uint32_t *flow, size_t flow_length,
+    uint8_t *text, size_t text_length);
+
+/* Reads such a text back against its table, byte for byte, and fills the flow row's first places, one for each arc. SOLUTION (16) names the
+   first line, from 1, that no solution text of the table has there: one past the last if lines are missing, the last if its LF is. A text
+   above 1,048,576 bytes is LONG (15). */
+struct jorrabide_read_back jorrabide_read_solution(
+    uint32_t n, uint32_t s, uint32_t t,
+    const uint32_t *tails, size_t tails_length,
+    const uint32_t *heads, size_t heads_length,
+    const uint32_t *capacities, size_t capacities_length,
+    const uint32_t *minimums, size_t minimums_length,
+    const uint8_t *text, size_t text_length,
+    uint32_t *flow, size_t flow_length);
+
 #ifdef __cplusplus
 }
 #endif

@@ -1,22 +1,25 @@
 /* The caller: takes calls from standard input, makes them through the static libraries, and writes on standard output
    what came back and every lent row. Numbers are 32 bits and little-endian; marks, texts and what is served are bytes.
 
-   A call: kind (1 solve, 2 solve arc records, 3 read by place, 4 read a text, 5 serve a text, 6 open a place, 7 solve
-   and 8 read by place for the server), n, s, t, the table's stamp, the answer's stamp, the place, its new capacity, the
-   lengths of the ten rows (tails, heads, capacities, minimums, flow, side, work, text, out, flow bytes), then the rows.
-   Numbers that a call doesn't have are 0, rows that it doesn't have are empty. For arc records the first four rows have
-   one length; the records are made of them here, and the rows of the records afterwards. The server's calls take their
-   arcs from the row of the text, and write their result to the row out.
-   What is written: nine 64-bit numbers (the answer's nine, the reading's five, the text's six, where the served bytes
-   end or what a server's call returned, then 0), then the rows, then 1 if nothing was written beside them. */
+   A call: its kind, n, s, t, the table's stamp, the answer's stamp, the place, its new capacity, a 64-bit number (its
+   lower half first), the lengths of the rows, then the rows. Numbers that a call doesn't have are 0, rows that it
+   doesn't have are empty. For arc records the first four rows have one length; the records are made of them here, and
+   the rows of the records afterwards. The server's calls take their arcs from the row of the text, and write their
+   result to the row out; solution texts are written to the row out.
+   What is written: nine 64-bit numbers (the fields of what came back in their order, then 0), then the rows, then 1 if
+   nothing was written beside them. */
 #include <stdint.h>
 #include <stdlib.h>
 #include <string.h>
 #include <unistd.h>
 
-enum { SOLVE = 1, SOLVE_RECORDS, READ_PLACE, READ_TEXT, SERVE, OPEN, SERVER_SOLVE, SERVER_PLACE };
+enum {
+    SOLVE = 1, SOLVE_RECORDS, READ_PLACE, READ_TEXT, SERVE, OPEN, SERVER_SOLVE, SERVER_PLACE, WRITE_SOLUTION,
+    READ_SOLUTION
+};
 enum { TAILS, HEADS, CAPACITIES, MINIMUMS, FLOW, SIDE, WORK, TEXT, OUT, FLOW_BYTES, ROWS };
-enum { KIND, NODES, SOURCE, SINK, STAMP, ANSWER_STAMP, PLACE, CAPACITY, LENGTHS, HEADER = LENGTHS + ROWS };
+enum { KIND, NODES, SOURCE, SINK, STAMP, ANSWER_STAMP, PLACE, CAPACITY, LOWER_HALF, UPPER_HALF, LENGTHS };
+enum { HEADER = LENGTHS + ROWS };
 enum { NUMBERS = 9, FENCE = 64, FENCE_BYTE = 0xA5 };
 
 /* The calls as they are compared. Each row is lent by where it begins and its length. */
@@ -69,12 +72,31 @@ uint64_t jorrabide_server_place(
     uint32_t n, uint32_t s, uint32_t t, uint32_t stamp, const uint8_t *arcs, size_t, uint32_t answer_stamp,
     const uint8_t *flow, size_t, const uint8_t *side, size_t, uint32_t place, uint8_t *result, size_t);
 
+/* Solution texts: written, and read back. */
+struct jorrabide_written {
+    uint32_t refusal, place;
+    size_t filled;
+};
+struct jorrabide_read_back {
+    uint32_t refusal, place;
+    uint64_t value;
+};
+struct jorrabide_written jorrabide_write_solution(
+    uint32_t n, uint32_t s, uint32_t t, const uint32_t *tails, size_t, const uint32_t *heads, size_t,
+    const uint32_t *capacities, size_t, const uint32_t *minimums, size_t, uint64_t value,
+    const uint32_t *flow, size_t, uint8_t *text, size_t);
+struct jorrabide_read_back jorrabide_read_solution(
+    uint32_t n, uint32_t s, uint32_t t, const uint32_t *tails, size_t, const uint32_t *heads, size_t,
+    const uint32_t *capacities, size_t, const uint32_t *minimums, size_t,
+    const uint8_t *text, size_t, uint32_t *flow, size_t);
+
 /* A row as the calls take it: where it begins and its length. */
 #define LENT_NUMBERS(row) numbers(row), (row).length
 #define LENT_BYTES(row) bytes(row), (row).length
 
 /* The arguments that most calls begin with: the table's numbers, and its four rows. */
-#define TABLE_NUMBERS call[NODES], call[SOURCE], call[SINK], call[STAMP]
+#define TABLE_ENDS call[NODES], call[SOURCE], call[SINK]
+#define TABLE_NUMBERS TABLE_ENDS, call[STAMP]
 #define TABLE_ROWS                                                                        \
     LENT_NUMBERS(rows[TAILS]), LENT_NUMBERS(rows[HEADS]), LENT_NUMBERS(rows[CAPACITIES]), \
         LENT_NUMBERS(rows[MINIMUMS])
@@ -145,6 +167,9 @@ static int is_fenced(struct row row) {
         if (row.memory[row.start + row.bytes + k] != FENCE_BYTE) return 0;
     return 1;
 }
+
+/* The call's 64-bit number. */
+static uint64_t long_number(const uint32_t *call) { return ((uint64_t)call[UPPER_HALF] << 32) + call[LOWER_HALF]; }
 
 /* An answer's nine numbers. */
 static void put_answer(struct jorrabide_answer answer, uint64_t *result) {
@@ -218,6 +243,22 @@ static void call_server_place(const uint32_t *call, const struct row *rows, uint
         LENT_BYTES(rows[SIDE]), call[PLACE], LENT_BYTES(rows[OUT]));
 }
 
+/* Makes the call of writing a solution text. */
+static void call_write_solution(const uint32_t *call, const struct row *rows, uint64_t *result) {
+    struct jorrabide_written written = jorrabide_write_solution(
+        TABLE_ENDS, TABLE_ROWS, long_number(call), LENT_NUMBERS(rows[FLOW]), LENT_BYTES(rows[OUT]));
+    const uint64_t fields[3] = {written.refusal, written.place, written.filled};
+    memcpy(result, fields, sizeof fields);
+}
+
+/* Makes the call of reading a solution text back. */
+static void call_read_solution(const uint32_t *call, const struct row *rows, uint64_t *result) {
+    struct jorrabide_read_back read = jorrabide_read_solution(
+        TABLE_ENDS, TABLE_ROWS, LENT_BYTES(rows[TEXT]), LENT_NUMBERS(rows[FLOW]));
+    const uint64_t fields[3] = {read.refusal, read.place, read.value};
+    memcpy(result, fields, sizeof fields);
+}
+
 int main(void) {
     uint32_t call[HEADER];
     while (read_all(call, sizeof call)) {
@@ -233,6 +274,8 @@ int main(void) {
             case OPEN: call_open(call, rows, result); break;
             case SERVER_SOLVE: call_server_solve(call, rows, result); break;
             case SERVER_PLACE: call_server_place(call, rows, result); break;
+            case WRITE_SOLUTION: call_write_solution(call, rows, result); break;
+            case READ_SOLUTION: call_read_solution(call, rows, result); break;
             default: return 1;
         }
         write_all(result, sizeof result);

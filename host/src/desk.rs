@@ -2,8 +2,9 @@
 
 use crate::bounded::is_greatest;
 use crate::refusal::{Name, Refusal};
+use crate::solution::solution_text;
 use crate::solve::{try_solve, work_need, Answer};
-use crate::table::{Table, MOST_CAPACITY};
+use crate::table::{check_unbounded, Table, MOST_CAPACITY};
 use crate::text;
 
 /// The greatest length in bytes of what the desk program reads.
@@ -153,6 +154,19 @@ pub fn longest_with_any_flow(text: &[u8]) -> Option<usize> {
 /// Whether what was printed for a text is what the desk program prints, with any greatest flow where that is free.
 pub fn is_printed(printed: &[u8], text: &[u8]) -> bool {
     printed == desk(text) || desk_with_flow_of(printed, text).is_some_and(|ours| ours == printed)
+}
+
+/// The solution text of the answer to a text's table, or the two lines for a refusal.
+pub fn solution(text: &[u8]) -> String {
+    let mut rows = Rows::new();
+    let solved = read_and_solve(&mut rows, text).and_then(|solved| {
+        check_unbounded(&rows.table(solved.given))?;
+        Ok(solved)
+    });
+    match solved {
+        Ok(solved) => solution_text(&rows.table(solved.given), solved.answer.value as u64, &solved.flow),
+        Err(refusal) => refusal_listing(refusal),
+    }
 }
 
 /// Writes what the desk program prints into a lent row of bytes as far as it goes, and tells where the bytes end.

@@ -12,6 +12,7 @@ pub mod refusal;
 pub mod run;
 pub mod server;
 pub mod side;
+pub mod solution;
 pub mod solve;
 pub mod table;
 pub mod text;

@@ -5,9 +5,9 @@ use judge::compare::caller::Call;
 use judge::compare::texts::random_text;
 use judge::compare::{
     compare_calls, compare_named, compare_texts, wanted_of_texts, Calls, Comparison, Seen, CALLS, ENOUGH, OPENINGS,
-    READINGS, SERVER,
+    READINGS, SERVER, SOLUTIONS,
 };
-use judge::desk::desk;
+use judge::desk::{desk, solution};
 use judge::families::{self, FAMILIES};
 use std::io::{self, Read, Write};
 use std::path::Path;
@@ -15,6 +15,7 @@ use std::process::ExitCode;
 
 const USAGE: &str = "usage:
   judge desk <TEXT                        what the desk prints for a text
+  judge solution <TEXT                    the solution text of the answer to a text
   judge stored FOLDER                     what the program of the stored runs prints, from its args and data/
   judge boundaries FILE COMMAND WORD..    the calls that FILE lists, through a caller
   judge families [full] COMMAND WORD..    the seeded tables of all families, small or at full size, through a caller
@@ -25,13 +26,14 @@ const USAGE: &str = "usage:
     calls       solving and reading by place
     readings    readings of text, and served texts
     openings    openings of a place
-    server      the booking server's calls";
+    server      the booking server's calls
+    solutions   solution texts, written and read back";
 
-/// Writes what the desk program prints for standard input.
-fn answer_input() -> io::Result<bool> {
+/// Writes the answer to standard input.
+fn answer_input(answer: impl Fn(&[u8]) -> Vec<u8>) -> io::Result<bool> {
     let mut text = Vec::new();
     io::stdin().lock().read_to_end(&mut text)?;
-    io::stdout().write_all(&desk(&text))?;
+    io::stdout().write_all(&answer(&text))?;
     Ok(true)
 }
 
@@ -138,7 +140,8 @@ fn told_of_calls(calls: &Calls, comparison: Comparison) -> io::Result<bool> {
 /// Takes the arguments and runs what they ask for.
 fn run(arguments: &[&str]) -> io::Result<bool> {
     match arguments {
-        ["desk"] => answer_input(),
+        ["desk"] => answer_input(desk),
+        ["solution"] => answer_input(|text| solution(text).into_bytes()),
         ["stored", folder] => answer_stored(Path::new(folder)),
         ["boundaries", file, command @ ..] if !command.is_empty() => compare_boundaries(file, command),
         ["families", "full", command @ ..] if !command.is_empty() => compare_families(true, command),
@@ -161,6 +164,9 @@ fn run(arguments: &[&str]) -> io::Result<bool> {
         }
         ["server", count, seed, command @ ..] if !command.is_empty() => {
             told_of_calls(&SERVER, comparison(count, seed, command)?)
+        }
+        ["solutions", count, seed, command @ ..] if !command.is_empty() => {
+            told_of_calls(&SOLUTIONS, comparison(count, seed, command)?)
         }
         _ => Err(io::Error::other(USAGE)),
     }

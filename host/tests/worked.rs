@@ -160,6 +160,7 @@ fn names_have_their_numbers_and_words() {
         (Name::Long, "LONG"),
     ];
     let later = [
+        (16, (Name::Solution, "SOLUTION")),
         (19, (Name::Minimum, "MINIMUM")),
         (20, (Name::Impossible, "IMPOSSIBLE")),
         (21, (Name::Bounded, "BOUNDED")),

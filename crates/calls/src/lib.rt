@@ -7,8 +7,12 @@ ghost use Rattle.planner.specs.Solving.{signedLeft, Solves, SolvesWell};
 ghost use Rattle.planner.specs.Reading.{reading};
 ghost use Rattle.opening.specs.Maximum.{MaximumFlow};
 ghost use Rattle.opening.specs.Opening.{opened, opening, Reopens};
+ghost use Rattle.solution.specs.Writing.{writing, left as leftWritten};
+ghost use Rattle.solution.specs.Reading.{reading as readingBack, left as leftRead};
 use planner::Reading;
 use planner::Signed;
+use solution::ReadBack;
+use solution::Written;
 use solver::Answer;
 
 // `planner::solve`.
@@ -114,4 +118,52 @@ pub extern "C" fn jorrabide_open(
         side,
         work,
     )
+}
+
+// `solution::write`.
+#[no_mangle]
+pub extern "C" fn jorrabide_write_solution(
+    n: u32,
+    s: u32,
+    t: u32,
+    tails: &[u32],
+    heads: &[u32],
+    capacities: &[u32],
+    minimums: &[u32],
+    value: u64,
+    flow: &[u32],
+    text: &mut [u8],
+) -> Written
+    ensures { λ r. ⌜ leftWritten r (now (text .exit)) ≡ writing (boundedOf n s t (now (tails .entry)) (now (heads .entry)) (now (capacities .entry)) (now (minimums .entry))) value (now (flow .entry)) (now (text .entry)) ⌝ }
+{
+    solution::write(
+        n,
+        s,
+        t,
+        tails,
+        heads,
+        capacities,
+        minimums,
+        value,
+        flow,
+        text,
+    )
+}
+
+// `solution::read`.
+#[no_mangle]
+pub extern "C" fn jorrabide_read_solution(
+    n: u32,
+    s: u32,
+    t: u32,
+    tails: &[u32],
+    heads: &[u32],
+    capacities: &[u32],
+    minimums: &[u32],
+    text: &[u8],
+    flow: &mut [u32],
+) -> ReadBack
+    ensures { λ r. ⌜ leftRead r (now (flow .exit)) ≡ readingBack (boundedOf n s t (now (tails .entry)) (now (heads .entry)) (now (capacities .entry)) (now (minimums .entry))) (now (text .entry)) (now (flow .entry)) ⌝ }
+{
+    solution::read(n, s, t, tails, heads, capacities, minimums, text, flow)
 }

@@ -5,6 +5,7 @@ use crate::desk::{desk_with_flow_of, serve};
 use crate::opening::{open, Opening};
 use crate::reading::read_place;
 use crate::server::{server_place, server_solve};
+use crate::solution::{read_solution, write_solution};
 use crate::solve::{solve, Answer};
 use crate::text;
 use std::ops::Range;
@@ -30,11 +31,14 @@ pub enum Kind {
     Open,
     ServerSolve,
     ServerPlace,
+    WriteSolution,
+    ReadSolution,
 }
 
 /// A call: its numbers and all rows that are lent to it. Numbers that it doesn't have are 0, rows that it doesn't have
 /// are empty. Reading a text is lent the table's rows, to write into. The server's calls have their arcs in the row of the
-/// text, and their result in the row `out`.
+/// text, and their result in the row `out`, which is also the row that a solution text is written to.
+/// What was done to a call, by its number, is not sent.
 #[derive(Clone)]
 pub struct Call {
     pub kind: Kind,
@@ -43,12 +47,14 @@ pub struct Call {
     pub answer_stamp: u32,
     pub place: u32,
     pub capacity: u32,
+    pub long: u64,
     pub flow: Vec<u32>,
     pub side: Vec<u8>,
     pub work: Vec<u32>,
     pub text: Vec<u8>,
     pub out: Vec<u8>,
     pub flow_bytes: Vec<u8>,
+    pub done: u32,
 }
 
 impl Call {
@@ -61,12 +67,14 @@ impl Call {
             answer_stamp: 0,
             place: 0,
             capacity: 0,
+            long: 0,
             flow: Vec::new(),
             side: Vec::new(),
             work: Vec::new(),
             text: Vec::new(),
             out: Vec::new(),
             flow_bytes: Vec::new(),
+            done: 0,
         }
     }
 }
@@ -103,6 +111,8 @@ pub fn sent(call: &Call) -> Vec<u8> {
         call.answer_stamp,
         call.place,
         call.capacity,
+        call.long as u32,
+        (call.long >> 32) as u32,
     ];
     let rows = rows(call);
     let mut bytes = bytes_of(&numbers);
@@ -213,6 +223,25 @@ fn make_server_reading(call: &mut Call) -> Numbers {
     returned(server_place(ends, stamps, &call.text, flow, side, call.place, result))
 }
 
+/// Nine numbers of which a refusal's two and one more come first.
+fn three(refusal: u32, place: u32, more: u64) -> Numbers {
+    let mut numbers = nine(&[refusal, place]);
+    numbers[2] = more;
+    numbers
+}
+
+/// Writes a solution text: its three numbers.
+fn make_writing(call: &mut Call) -> Numbers {
+    let written = write_solution(&call.table.lent(), call.long, &call.flow, &mut call.out);
+    three(written.refusal, written.place, written.filled)
+}
+
+/// Reads a solution text back: its three numbers.
+fn make_reading_back(call: &mut Call) -> Numbers {
+    let read = read_solution(&call.table.lent(), &call.text, &mut call.flow);
+    three(read.refusal, read.place, read.value)
+}
+
 /// Makes the call by the independent program: its nine numbers; the call's rows are changed as the call changes them.
 fn make(call: &mut Call) -> Numbers {
     match call.kind {
@@ -221,6 +250,8 @@ fn make(call: &mut Call) -> Numbers {
         Kind::ReadText => make_text_reading(call),
         Kind::Serve => make_serving(call),
         Kind::Open => make_opening(call),
+        Kind::WriteSolution => make_writing(call),
+        Kind::ReadSolution => make_reading_back(call),
         Kind::ServerSolve => make_server_solving(call),
         Kind::ServerPlace => make_server_reading(call),
     }

@@ -75,6 +75,28 @@ pub fn called_table(random: &mut Random) -> OwnTable {
     table
 }
 
+/// A table to ask more of than solving: mostly fine, with minimums or faults now and then.
+pub fn asked_table(random: &mut Random) -> OwnTable {
+    let mut table = random_table(random);
+    match random.between(0, 23) {
+        0 => put_any_minimums(random, &mut table),
+        1 => put_kept_minimums(random, &mut table),
+        _ => {}
+    }
+    if random.once_in(6) {
+        for _ in 0..random.between(1, 2) {
+            let fault = random.one_of(&FAULTS);
+            if fault != Fault::ManyArcs || random.once_in(5) {
+                put_fault(random, &mut table, fault);
+            }
+        }
+    }
+    if random.once_in(25) {
+        part_rows(random, &mut table);
+    }
+    table
+}
+
 /// The answer's stamp beside a table's: often the same, else few rebuilds away, at a bound of the ranges, or anywhere.
 pub fn stamp_beside(random: &mut Random, stamp: u32) -> u32 {
     let few = random.between(1, 5);

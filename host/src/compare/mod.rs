@@ -7,6 +7,7 @@ pub mod openings;
 pub mod random;
 pub mod readings;
 pub mod serving;
+pub mod solutions;
 pub mod spacing;
 pub mod tables;
 pub mod texts;
@@ -255,6 +256,15 @@ pub const SERVER: Calls = Calls {
     random: serving::random_server_call,
     brought: serving::brought,
     wanted: serving::wanted,
+    enough: 10_000,
+};
+
+/// Writing solution texts, and reading them back.
+pub const SOLUTIONS: Calls = Calls {
+    what: "solution texts",
+    random: solutions::random_solution,
+    brought: solutions::brought,
+    wanted: solutions::wanted,
     enough: 10_000,
 };
 

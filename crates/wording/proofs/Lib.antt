@@ -1,0 +1,5 @@
+pub mod Bytes
+pub mod Numbers
+pub mod Lengths
+pub mod Saying
+pub mod Speaking
