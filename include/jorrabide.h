@@ -112,6 +112,27 @@ struct jorrabide_read_back jorrabide_read_solution(
     const uint8_t *text, size_t text_length,
     uint32_t *flow, size_t flow_length);
 
+/* What checking a plan returns: a refusal's number and place and 0, or refusal 0 and 1 where the plan is full, else 0. */
+struct jorrabide_checked {
+    uint32_t refusal;
+    uint32_t place;
+    uint32_t full;
+};
+
+/* Checks another product's plan: its solution text, whose `f` lines may come in any order and are summed by ordered pair, and a side row of n
+   marks. `full` is 1 exactly where the sums can be shared among the arcs of each pair within capacity as a flow, the net out of the source is
+   the `s` line, the source is marked 1 and the sink is not, and the marked cut has that capacity; then no flow of the table is larger. SOLUTION
+   (16) names the first line, from 1, that is not of its form, or one past the last if there is no `s` line. The call takes some 56 KB of stack
+   and writes nothing. */
+struct jorrabide_checked jorrabide_check_plan(
+    uint32_t n, uint32_t s, uint32_t t,
+    const uint32_t *tails, size_t tails_length,
+    const uint32_t *heads, size_t heads_length,
+    const uint32_t *capacities, size_t capacities_length,
+    const uint32_t *minimums, size_t minimums_length,
+    const uint8_t *text, size_t text_length,
+    const uint8_t *side, size_t side_length);
+
 #ifdef __cplusplus
 }
 #endif

@@ -15,7 +15,7 @@
 
 enum {
     SOLVE = 1, SOLVE_RECORDS, READ_PLACE, READ_TEXT, SERVE, OPEN, SERVER_SOLVE, SERVER_PLACE, WRITE_SOLUTION,
-    READ_SOLUTION
+    READ_SOLUTION, CHECK_PLAN
 };
 enum { TAILS, HEADS, CAPACITIES, MINIMUMS, FLOW, SIDE, WORK, TEXT, OUT, FLOW_BYTES, ROWS };
 enum { KIND, NODES, SOURCE, SINK, STAMP, ANSWER_STAMP, PLACE, CAPACITY, LOWER_HALF, UPPER_HALF, LENGTHS };
@@ -89,6 +89,15 @@ struct jorrabide_read_back jorrabide_read_solution(
     uint32_t n, uint32_t s, uint32_t t, const uint32_t *tails, size_t, const uint32_t *heads, size_t,
     const uint32_t *capacities, size_t, const uint32_t *minimums, size_t,
     const uint8_t *text, size_t, uint32_t *flow, size_t);
+
+/* Checking a plan. */
+struct jorrabide_checked {
+    uint32_t refusal, place, full;
+};
+struct jorrabide_checked jorrabide_check_plan(
+    uint32_t n, uint32_t s, uint32_t t, const uint32_t *tails, size_t, const uint32_t *heads, size_t,
+    const uint32_t *capacities, size_t, const uint32_t *minimums, size_t,
+    const uint8_t *text, size_t, const uint8_t *side, size_t);
 
 /* A row as the calls take it: where it begins and its length. */
 #define LENT_NUMBERS(row) numbers(row), (row).length
@@ -259,6 +268,14 @@ static void call_read_solution(const uint32_t *call, const struct row *rows, uin
     memcpy(result, fields, sizeof fields);
 }
 
+/* Makes the call of checking a plan. */
+static void call_check_plan(const uint32_t *call, const struct row *rows, uint64_t *result) {
+    struct jorrabide_checked checked = jorrabide_check_plan(
+        TABLE_ENDS, TABLE_ROWS, LENT_BYTES(rows[TEXT]), LENT_BYTES(rows[SIDE]));
+    const uint64_t fields[3] = {checked.refusal, checked.place, checked.full};
+    memcpy(result, fields, sizeof fields);
+}
+
 int main(void) {
     uint32_t call[HEADER];
     while (read_all(call, sizeof call)) {
@@ -276,6 +293,7 @@ int main(void) {
             case SERVER_PLACE: call_server_place(call, rows, result); break;
             case WRITE_SOLUTION: call_write_solution(call, rows, result); break;
             case READ_SOLUTION: call_read_solution(call, rows, result); break;
+            case CHECK_PLAN: call_check_plan(call, rows, result); break;
             default: return 1;
         }
         write_all(result, sizeof result);

@@ -7,6 +7,7 @@ pub mod compare;
 pub mod desk;
 pub mod families;
 pub mod opening;
+pub mod plan;
 pub mod reading;
 pub mod refusal;
 pub mod run;

@@ -5,7 +5,7 @@ use judge::compare::caller::Call;
 use judge::compare::texts::random_text;
 use judge::compare::{
     compare_calls, compare_named, compare_texts, wanted_of_texts, Calls, Comparison, Seen, CALLS, ENOUGH, OPENINGS,
-    READINGS, SERVER, SOLUTIONS,
+    PLANS, READINGS, SERVER, SOLUTIONS,
 };
 use judge::desk::{desk, solution};
 use judge::families::{self, FAMILIES};
@@ -27,7 +27,8 @@ const USAGE: &str = "usage:
     readings    readings of text, and served texts
     openings    openings of a place
     server      the booking server's calls
-    solutions   solution texts, written and read back";
+    solutions   solution texts, written and read back
+    plans       plans to check";
 
 /// Writes the answer to standard input.
 fn answer_input(answer: impl Fn(&[u8]) -> Vec<u8>) -> io::Result<bool> {
@@ -167,6 +168,9 @@ fn run(arguments: &[&str]) -> io::Result<bool> {
         }
         ["solutions", count, seed, command @ ..] if !command.is_empty() => {
             told_of_calls(&SOLUTIONS, comparison(count, seed, command)?)
+        }
+        ["plans", count, seed, command @ ..] if !command.is_empty() => {
+            told_of_calls(&PLANS, comparison(count, seed, command)?)
         }
         _ => Err(io::Error::other(USAGE)),
     }

@@ -84,13 +84,13 @@ impl Gathered {
 }
 
 /// The lines of a text without their LF, where the last LF may be missing.
-fn lines(text: &[u8]) -> impl Iterator<Item = &[u8]> {
+pub fn lines(text: &[u8]) -> impl Iterator<Item = &[u8]> {
     text.split_inclusive(|byte| *byte == b'\n')
         .map(|line| line.strip_suffix(b"\n").unwrap_or(line))
 }
 
 /// Reads a number of 1 to 10 digits without a leading zero, at most 4,294,967,295.
-fn number(field: &[u8]) -> Option<u32> {
+pub fn number(field: &[u8]) -> Option<u32> {
     if field.is_empty() || field.len() > 10 {
         return None;
     }
@@ -113,7 +113,7 @@ pub fn is_separator(byte: &u8) -> bool {
 }
 
 /// The fields of a line, parted by one or more separators; none if a separator stands before its first letter.
-fn fields(line: &[u8]) -> Option<Vec<&[u8]>> {
+pub fn fields(line: &[u8]) -> Option<Vec<&[u8]>> {
     if line.first().is_some_and(is_separator) {
         return None;
     }

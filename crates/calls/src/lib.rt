@@ -9,6 +9,8 @@ ghost use Rattle.opening.specs.Maximum.{MaximumFlow};
 ghost use Rattle.opening.specs.Opening.{opened, opening, Reopens};
 ghost use Rattle.solution.specs.Writing.{writing, left as leftWritten};
 ghost use Rattle.solution.specs.Reading.{reading as readingBack, left as leftRead};
+ghost use Rattle.plan.specs.Checking.{Checks};
+use plan::Checked;
 use planner::Reading;
 use planner::Signed;
 use solution::ReadBack;
@@ -166,4 +168,22 @@ pub extern "C" fn jorrabide_read_solution(
     ensures { λ r. ⌜ leftRead r (now (flow .exit)) ≡ readingBack (boundedOf n s t (now (tails .entry)) (now (heads .entry)) (now (capacities .entry)) (now (minimums .entry))) (now (text .entry)) (now (flow .entry)) ⌝ }
 {
     solution::read(n, s, t, tails, heads, capacities, minimums, text, flow)
+}
+
+// `plan::check_plan`.
+#[no_mangle]
+pub extern "C" fn jorrabide_check_plan(
+    n: u32,
+    s: u32,
+    t: u32,
+    tails: &[u32],
+    heads: &[u32],
+    capacities: &[u32],
+    minimums: &[u32],
+    text: &[u8],
+    side: &[u8],
+) -> Checked
+    ensures { λ r. ⌜ Checks (boundedOf n s t (now (tails .entry)) (now (heads .entry)) (now (capacities .entry)) (now (minimums .entry))) (now (text .entry)) (now (side .entry)) r ⌝ }
+{
+    plan::check_plan(n, s, t, tails, heads, capacities, minimums, text, side)
 }

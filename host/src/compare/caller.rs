@@ -3,6 +3,7 @@ use super::tables::OwnTable;
 use crate::bounded::is_greatest;
 use crate::desk::{desk_with_flow_of, serve};
 use crate::opening::{open, Opening};
+use crate::plan::check_plan;
 use crate::reading::read_place;
 use crate::server::{server_place, server_solve};
 use crate::solution::{read_solution, write_solution};
@@ -33,6 +34,7 @@ pub enum Kind {
     ServerPlace,
     WriteSolution,
     ReadSolution,
+    CheckPlan,
 }
 
 /// A call: its numbers and all rows that are lent to it. Numbers that it doesn't have are 0, rows that it doesn't have
@@ -242,6 +244,12 @@ fn make_reading_back(call: &mut Call) -> Numbers {
     three(read.refusal, read.place, read.value)
 }
 
+/// Checks a plan: its three numbers.
+fn make_checking(call: &Call) -> Numbers {
+    let checked = check_plan(&call.table.lent(), &call.text, &call.side);
+    nine(&[checked.refusal, checked.place, checked.full])
+}
+
 /// Makes the call by the independent program: its nine numbers; the call's rows are changed as the call changes them.
 fn make(call: &mut Call) -> Numbers {
     match call.kind {
@@ -252,6 +260,7 @@ fn make(call: &mut Call) -> Numbers {
         Kind::Open => make_opening(call),
         Kind::WriteSolution => make_writing(call),
         Kind::ReadSolution => make_reading_back(call),
+        Kind::CheckPlan => make_checking(call),
         Kind::ServerSolve => make_server_solving(call),
         Kind::ServerPlace => make_server_reading(call),
     }

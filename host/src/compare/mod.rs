@@ -4,6 +4,7 @@
 pub mod caller;
 pub mod calls;
 pub mod openings;
+pub mod plans;
 pub mod random;
 pub mod readings;
 pub mod serving;
@@ -265,6 +266,15 @@ pub const SOLUTIONS: Calls = Calls {
     random: solutions::random_solution,
     brought: solutions::brought,
     wanted: solutions::wanted,
+    enough: 10_000,
+};
+
+/// Checking plans.
+pub const PLANS: Calls = Calls {
+    what: "plans",
+    random: plans::random_plan,
+    brought: plans::brought,
+    wanted: plans::wanted,
     enough: 10_000,
 };
 
