@@ -133,6 +133,26 @@ struct jorrabide_checked jorrabide_check_plan(
     const uint8_t *text, size_t text_length,
     const uint8_t *side, size_t side_length);
 
+/* What listing chains returns: what solving returns, and how many numbers of the list were filled, 0 on a refusal. */
+struct jorrabide_listed {
+    struct jorrabide_answer answer;
+    uint32_t filled;
+};
+
+/* Solves the table and lists its chains from source to sink, and its rings: for each 1 for a chain or 2 for a ring, its amount, how many places
+   it has, and these as walked. m (3 + n) numbers are always enough for the list; ROOM (5) where it is longer than its row, with nothing written.
+   Minimums must be 0 (BOUNDED, 21). Other rows as for solving. */
+struct jorrabide_listed jorrabide_list_chains(
+    uint32_t n, uint32_t s, uint32_t t, uint32_t stamp,
+    const uint32_t *tails, size_t tails_length,
+    const uint32_t *heads, size_t heads_length,
+    const uint32_t *capacities, size_t capacities_length,
+    const uint32_t *minimums, size_t minimums_length,
+    uint32_t *flow, size_t flow_length,
+    uint8_t *side, size_t side_length,
+    uint32_t *work, size_t work_length,
+    uint32_t *list, size_t list_length);
+
 #ifdef __cplusplus
 }
 #endif

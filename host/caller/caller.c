@@ -6,8 +6,8 @@
    doesn't have are empty. For arc records the first four rows have one length; the records are made of them here, and
    the rows of the records afterwards. The server's calls take their arcs from the row of the text, and write their
    result to the row out; solution texts are written to the row out.
-   What is written: nine 64-bit numbers (the fields of what came back in their order, then 0), then the rows, then 1 if
-   nothing was written beside them. */
+   What is written: fourteen 64-bit numbers (the fields of what came back in their order, then 0), then the rows, then 1
+   if nothing was written beside them. */
 #include <stdint.h>
 #include <stdlib.h>
 #include <string.h>
@@ -15,12 +15,12 @@
 
 enum {
     SOLVE = 1, SOLVE_RECORDS, READ_PLACE, READ_TEXT, SERVE, OPEN, SERVER_SOLVE, SERVER_PLACE, WRITE_SOLUTION,
-    READ_SOLUTION, CHECK_PLAN
+    READ_SOLUTION, CHECK_PLAN, LIST_CHAINS
 };
-enum { TAILS, HEADS, CAPACITIES, MINIMUMS, FLOW, SIDE, WORK, TEXT, OUT, FLOW_BYTES, ROWS };
+enum { TAILS, HEADS, CAPACITIES, MINIMUMS, FLOW, SIDE, WORK, TEXT, OUT, FLOW_BYTES, LIST, ROWS };
 enum { KIND, NODES, SOURCE, SINK, STAMP, ANSWER_STAMP, PLACE, CAPACITY, LOWER_HALF, UPPER_HALF, LENGTHS };
 enum { HEADER = LENGTHS + ROWS };
-enum { NUMBERS = 9, FENCE = 64, FENCE_BYTE = 0xA5 };
+enum { NUMBERS = 14, FENCE = 64, FENCE_BYTE = 0xA5 };
 
 /* The calls as they are compared. Each row is lent by where it begins and its length. */
 struct jorrabide_answer {
@@ -98,6 +98,16 @@ struct jorrabide_checked jorrabide_check_plan(
     uint32_t n, uint32_t s, uint32_t t, const uint32_t *tails, size_t, const uint32_t *heads, size_t,
     const uint32_t *capacities, size_t, const uint32_t *minimums, size_t,
     const uint8_t *text, size_t, const uint8_t *side, size_t);
+
+/* Listing chains. */
+struct jorrabide_listed {
+    struct jorrabide_answer answer;
+    uint32_t filled;
+};
+struct jorrabide_listed jorrabide_list_chains(
+    uint32_t n, uint32_t s, uint32_t t, uint32_t stamp, const uint32_t *tails, size_t, const uint32_t *heads, size_t,
+    const uint32_t *capacities, size_t, const uint32_t *minimums, size_t,
+    uint32_t *flow, size_t, uint8_t *side, size_t, uint32_t *work, size_t, uint32_t *list, size_t);
 
 /* A row as the calls take it: where it begins and its length. */
 #define LENT_NUMBERS(row) numbers(row), (row).length
@@ -276,6 +286,14 @@ static void call_check_plan(const uint32_t *call, const struct row *rows, uint64
     memcpy(result, fields, sizeof fields);
 }
 
+/* Makes the call of listing chains. */
+static void call_list_chains(const uint32_t *call, const struct row *rows, uint64_t *result) {
+    struct jorrabide_listed listed = jorrabide_list_chains(
+        TABLE_NUMBERS, TABLE_ROWS, SOLVING_ROWS, LENT_NUMBERS(rows[LIST]));
+    put_answer(listed.answer, result);
+    result[9] = listed.filled;
+}
+
 int main(void) {
     uint32_t call[HEADER];
     while (read_all(call, sizeof call)) {
@@ -294,6 +312,7 @@ int main(void) {
             case WRITE_SOLUTION: call_write_solution(call, rows, result); break;
             case READ_SOLUTION: call_read_solution(call, rows, result); break;
             case CHECK_PLAN: call_check_plan(call, rows, result); break;
+            case LIST_CHAINS: call_list_chains(call, rows, result); break;
             default: return 1;
         }
         write_all(result, sizeof result);

@@ -3,6 +3,7 @@
 
 pub mod boundaries;
 pub mod bounded;
+pub mod chains;
 pub mod compare;
 pub mod desk;
 pub mod families;

@@ -4,8 +4,8 @@ use judge::boundaries;
 use judge::compare::caller::Call;
 use judge::compare::texts::random_text;
 use judge::compare::{
-    compare_calls, compare_named, compare_texts, wanted_of_texts, Calls, Comparison, Seen, CALLS, ENOUGH, OPENINGS,
-    PLANS, READINGS, SERVER, SOLUTIONS,
+    compare_calls, compare_named, compare_texts, wanted_of_texts, Calls, Comparison, Seen, CALLS, ENOUGH, LISTINGS,
+    OPENINGS, PLANS, READINGS, SERVER, SOLUTIONS,
 };
 use judge::desk::{desk, solution};
 use judge::families::{self, FAMILIES};
@@ -28,7 +28,8 @@ const USAGE: &str = "usage:
     openings    openings of a place
     server      the booking server's calls
     solutions   solution texts, written and read back
-    plans       plans to check";
+    plans       plans to check
+    listings    chains and rings, listed";
 
 /// Writes the answer to standard input.
 fn answer_input(answer: impl Fn(&[u8]) -> Vec<u8>) -> io::Result<bool> {
@@ -171,6 +172,9 @@ fn run(arguments: &[&str]) -> io::Result<bool> {
         }
         ["plans", count, seed, command @ ..] if !command.is_empty() => {
             told_of_calls(&PLANS, comparison(count, seed, command)?)
+        }
+        ["listings", count, seed, command @ ..] if !command.is_empty() => {
+            told_of_calls(&LISTINGS, comparison(count, seed, command)?)
         }
         _ => Err(io::Error::other(USAGE)),
     }

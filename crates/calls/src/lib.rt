@@ -10,6 +10,8 @@ ghost use Rattle.opening.specs.Opening.{opened, opening, Reopens};
 ghost use Rattle.solution.specs.Writing.{writing, left as leftWritten};
 ghost use Rattle.solution.specs.Reading.{reading as readingBack, left as leftRead};
 ghost use Rattle.plan.specs.Checking.{Checks};
+ghost use Rattle.chains.specs.Listing.{shownBy, listing, Shows};
+use chains::Listed;
 use plan::Checked;
 use planner::Reading;
 use planner::Signed;
@@ -186,4 +188,39 @@ pub extern "C" fn jorrabide_check_plan(
     ensures { λ r. ⌜ Checks (boundedOf n s t (now (tails .entry)) (now (heads .entry)) (now (capacities .entry)) (now (minimums .entry))) (now (text .entry)) (now (side .entry)) r ⌝ }
 {
     plan::check_plan(n, s, t, tails, heads, capacities, minimums, text, side)
+}
+
+// `chains::list_chains`.
+#[no_mangle]
+pub extern "C" fn jorrabide_list_chains(
+    n: u32,
+    s: u32,
+    t: u32,
+    stamp: u32,
+    tails: &[u32],
+    heads: &[u32],
+    capacities: &[u32],
+    minimums: &[u32],
+    flow: &mut [u32],
+    side: &mut [u8],
+    work: &mut [u32],
+    list: &mut [u32],
+) -> Listed
+    ensures exact { λ r. ⌜ shownBy r (now (flow .exit)) (now (side .exit)) (now (work .exit)) (now (list .exit)) ≡ listing (boundedOf n s t (now (tails .entry)) (now (heads .entry)) (now (capacities .entry)) (now (minimums .entry))) stamp (now (flow .entry)) (now (side .entry)) (now (work .entry)) (now (list .entry)) ⌝ }
+    ensures shows { λ r. ⌜ (r .answer .refusal ≡ 0 → Shows (tableOf n s t (now (tails .entry)) (now (heads .entry)) (now (capacities .entry))) (shownBy r (now (flow .exit)) (now (side .exit)) (now (work .exit)) (now (list .exit)))) ⌝ }
+{
+    chains::list_chains(
+        n,
+        s,
+        t,
+        stamp,
+        tails,
+        heads,
+        capacities,
+        minimums,
+        flow,
+        side,
+        work,
+        list,
+    )
 }

@@ -1,6 +1,7 @@
 //! Calls as the caller takes them, and what must come back from each.
 use super::tables::OwnTable;
 use crate::bounded::is_greatest;
+use crate::chains::list_chains;
 use crate::desk::{desk_with_flow_of, serve};
 use crate::opening::{open, Opening};
 use crate::plan::check_plan;
@@ -12,7 +13,10 @@ use crate::text;
 use std::ops::Range;
 
 /// How many numbers come back from a call.
-pub const NUMBERS: usize = 9;
+pub const NUMBERS: usize = 14;
+
+/// How many lists of numbers a call may be lent.
+pub const LISTS: usize = 1;
 
 /// The numbers that come back from a call.
 pub type Numbers = [u64; NUMBERS];
@@ -35,6 +39,7 @@ pub enum Kind {
     WriteSolution,
     ReadSolution,
     CheckPlan,
+    ListChains,
 }
 
 /// A call: its numbers and all rows that are lent to it. Numbers that it doesn't have are 0, rows that it doesn't have
@@ -56,6 +61,7 @@ pub struct Call {
     pub text: Vec<u8>,
     pub out: Vec<u8>,
     pub flow_bytes: Vec<u8>,
+    pub lists: [Vec<u32>; LISTS],
     pub done: u32,
 }
 
@@ -76,6 +82,7 @@ impl Call {
             text: Vec::new(),
             out: Vec::new(),
             flow_bytes: Vec::new(),
+            lists: [const { Vec::new() }; LISTS],
             done: 0,
         }
     }
@@ -98,6 +105,7 @@ fn rows(call: &Call) -> Vec<(usize, Vec<u8>)> {
     rows.push(of_bytes(&call.text));
     rows.push(of_bytes(&call.out));
     rows.push(of_bytes(&call.flow_bytes));
+    rows.extend(call.lists.iter().map(of_numbers));
     rows
 }
 
@@ -123,8 +131,8 @@ pub fn sent(call: &Call) -> Vec<u8> {
     bytes
 }
 
-/// Nine numbers of which these come first and the rest is 0.
-fn nine(fields: &[u32]) -> Numbers {
+/// Numbers of which these come first and the rest is 0.
+fn first(fields: &[u32]) -> Numbers {
     let mut numbers = [0; NUMBERS];
     for (number, field) in numbers.iter_mut().zip(fields) {
         *number = u64::from(*field);
@@ -132,9 +140,9 @@ fn nine(fields: &[u32]) -> Numbers {
     numbers
 }
 
-/// The nine numbers of an answer.
-fn nine_of(answer: Answer) -> Numbers {
-    [
+/// The nine numbers of an answer, which come first.
+fn numbers_of(answer: Answer) -> Numbers {
+    let nine = [
         u64::from(answer.refusal),
         u64::from(answer.place),
         u64::from(answer.stamp),
@@ -144,13 +152,25 @@ fn nine_of(answer: Answer) -> Numbers {
         answer.saturating,
         answer.nonsaturating,
         answer.relabels,
-    ]
+    ];
+    let mut numbers = [0; NUMBERS];
+    numbers[..9].copy_from_slice(&nine);
+    numbers
+}
+
+/// The nine numbers of an answer, and these after them.
+fn numbers_and(answer: Answer, more: &[u32]) -> Numbers {
+    let mut numbers = numbers_of(answer);
+    for (number, field) in numbers[9..].iter_mut().zip(more) {
+        *number = u64::from(*field);
+    }
+    numbers
 }
 
 /// Solves the call's table: an answer's nine numbers.
 fn make_solving(call: &mut Call) -> Numbers {
     let table = call.table.lent();
-    nine_of(solve(
+    numbers_of(solve(
         &table,
         call.stamp,
         &mut call.flow,
@@ -167,7 +187,7 @@ fn make_opening(call: &mut Call) -> Numbers {
         capacity: call.capacity,
     };
     let (flow, side, work) = (&mut call.flow, &mut call.side, &mut call.work);
-    nine_of(open(&table, call.stamp, opening, flow, side, work))
+    numbers_of(open(&table, call.stamp, opening, flow, side, work))
 }
 
 /// Reads the call's rows by place: a reading's five numbers.
@@ -175,7 +195,7 @@ fn make_reading(call: &Call) -> Numbers {
     let (stamp, answer_stamp) = (call.stamp, call.answer_stamp);
     let table = call.table.lent();
     let reading = read_place(&table, stamp, answer_stamp, &call.flow, &call.side, call.place);
-    nine(&[
+    first(&[
         reading.refusal,
         reading.place,
         reading.flow,
@@ -189,14 +209,14 @@ fn make_text_reading(call: &mut Call) -> Numbers {
     let rows = &mut call.table;
     let (tails, heads) = (&mut rows.tails, &mut rows.heads);
     match text::read(&call.text, tails, heads, &mut rows.capacities, &mut rows.minimums) {
-        Ok(given) => nine(&[0, 0, given.n, given.m, given.s, given.t]),
-        Err(refusal) => nine(&[refusal.name.number(), refusal.place]),
+        Ok(given) => first(&[0, 0, given.n, given.m, given.s, given.t]),
+        Err(refusal) => first(&[refusal.name.number(), refusal.place]),
     }
 }
 
 /// Serves the call's text into its row of bytes: where the bytes end.
 fn make_serving(call: &mut Call) -> Numbers {
-    nine(&[serve(&call.text, &mut call.out) as u32])
+    first(&[serve(&call.text, &mut call.out) as u32])
 }
 
 /// The n, s and t of a call.
@@ -204,7 +224,7 @@ fn ends(call: &Call) -> [u32; 3] {
     [call.table.n, call.table.s, call.table.t]
 }
 
-/// Nine numbers of which the first is the one that a server's call returned.
+/// Numbers of which the first is the one that a server's call returned.
 fn returned(number: u64) -> Numbers {
     let mut numbers = [0; NUMBERS];
     numbers[0] = number;
@@ -225,9 +245,9 @@ fn make_server_reading(call: &mut Call) -> Numbers {
     returned(server_place(ends, stamps, &call.text, flow, side, call.place, result))
 }
 
-/// Nine numbers of which a refusal's two and one more come first.
+/// Numbers of which a refusal's two and one more come first.
 fn three(refusal: u32, place: u32, more: u64) -> Numbers {
-    let mut numbers = nine(&[refusal, place]);
+    let mut numbers = first(&[refusal, place]);
     numbers[2] = more;
     numbers
 }
@@ -247,10 +267,18 @@ fn make_reading_back(call: &mut Call) -> Numbers {
 /// Checks a plan: its three numbers.
 fn make_checking(call: &Call) -> Numbers {
     let checked = check_plan(&call.table.lent(), &call.text, &call.side);
-    nine(&[checked.refusal, checked.place, checked.full])
+    first(&[checked.refusal, checked.place, checked.full])
 }
 
-/// Makes the call by the independent program: its nine numbers; the call's rows are changed as the call changes them.
+/// Solves the call's table and lists its chains: an answer's nine numbers, and how many of the list were filled.
+fn make_listing(call: &mut Call) -> Numbers {
+    let table = call.table.lent();
+    let (flow, side, work) = (&mut call.flow, &mut call.side, &mut call.work);
+    let (answer, filled) = list_chains(&table, call.stamp, flow, side, work, &mut call.lists[0]);
+    numbers_and(answer, &[filled])
+}
+
+/// Makes the call by the independent program: its numbers; the call's rows are changed as the call changes them.
 fn make(call: &mut Call) -> Numbers {
     match call.kind {
         Kind::Solve | Kind::SolveRecords => make_solving(call),
@@ -261,6 +289,7 @@ fn make(call: &mut Call) -> Numbers {
         Kind::WriteSolution => make_writing(call),
         Kind::ReadSolution => make_reading_back(call),
         Kind::CheckPlan => make_checking(call),
+        Kind::ListChains => make_listing(call),
         Kind::ServerSolve => make_server_solving(call),
         Kind::ServerPlace => make_server_reading(call),
     }
@@ -316,7 +345,7 @@ fn expected_with_served_flow(call: &Call, theirs: &[u8]) -> Option<Vec<u8>> {
     }
     let mut made = call.clone();
     made.out[..end].copy_from_slice(&printed);
-    Some(come_back(&nine(&[end as u32]), &made))
+    Some(come_back(&first(&[end as u32]), &made))
 }
 
 /// Where what came back differs first from what must come back, if it does. Which greatest flow comes back is free where

@@ -31,6 +31,57 @@ pub fn row_length(random: &mut Random, need: u64) -> usize {
     }
 }
 
+/// The length of a lent row: mostly exact or longer.
+pub fn lent_length(random: &mut Random, need: u64) -> usize {
+    let more = random.one_of(&[0, 0, 1, 9]);
+    if random.once_in(4) {
+        row_length(random, need)
+    } else {
+        need.min(20_000) as usize + more
+    }
+}
+
+/// A call with a stamp and solving's rows, mostly exact or longer.
+pub fn solving_call(random: &mut Random, kind: Kind, table: OwnTable) -> Call {
+    let (n, m) = (u64::from(table.n), table.arcs() as u64);
+    let [flow, side, work] = [m, n, 4 * n + 2 * m + 1].map(|need| lent_length(random, need));
+    Call {
+        stamp: odd_number(random),
+        flow: (0..flow).map(|_| odd_number(random)).collect(),
+        side: (0..side).map(|_| odd_mark(random)).collect(),
+        work: (0..work).map(|_| odd_number(random)).collect(),
+        ..Call::of(kind, table)
+    }
+}
+
+/// A list of odd numbers for so many: exact, longer, one short, short or empty.
+pub fn odd_list(random: &mut Random, need: usize) -> Vec<u32> {
+    let (some, more) = (random.place(need + 1), random.place(9) + 1);
+    let length = random.one_of(&[
+        need,
+        need,
+        need,
+        need,
+        need + 1,
+        need + more,
+        need.saturating_sub(1),
+        some,
+        0,
+    ]);
+    (0..length).map(|_| odd_number(random)).collect()
+}
+
+/// How a list stands to the numbers that it is to hold.
+pub fn list_beside(length: usize, need: usize) -> &'static str {
+    match length {
+        _ if length == need => "exact",
+        _ if length > need => "longer",
+        _ if length + 1 == need => "one short",
+        0 => "empty and short",
+        _ => "short",
+    }
+}
+
 /// A row of odd numbers.
 fn odd_row(random: &mut Random, need: u64) -> Vec<u32> {
     (0..row_length(random, need)).map(|_| odd_number(random)).collect()

@@ -3,6 +3,7 @@
 
 pub mod caller;
 pub mod calls;
+pub mod listings;
 pub mod openings;
 pub mod plans;
 pub mod random;
@@ -276,6 +277,15 @@ pub const PLANS: Calls = Calls {
     brought: plans::brought,
     wanted: plans::wanted,
     enough: 10_000,
+};
+
+/// Listing chains.
+pub const LISTINGS: Calls = Calls {
+    what: "listings of chains",
+    random: listings::random_listing,
+    brought: listings::brought,
+    wanted: listings::wanted,
+    enough: 5_000,
 };
 
 /// A caller that runs, its input and output held by us.

@@ -1,6 +1,6 @@
 //! Random openings of a place of a solved table.
 use super::caller::{Call, Kind, Numbers};
-use super::calls::{called, odd_mark, odd_number, part_rows, row_length};
+use super::calls::{called, lent_length, odd_mark, odd_number, part_rows};
 use super::random::Random;
 use super::tables::{put_fault, random_table, Fault, OwnTable, FAULTS};
 use super::walks::{add_ring, fill_some_chain, put_any_minimums, put_kept_minimums};
@@ -142,16 +142,6 @@ fn opened_table(random: &mut Random) -> OwnTable {
         if table.arcs() >= 8 || random.once_in(6) {
             return table;
         }
-    }
-}
-
-/// The length of a lent row of an opening: mostly exact or longer.
-fn lent_length(random: &mut Random, need: u64) -> usize {
-    let more = random.one_of(&[0, 0, 1, 9]);
-    if random.once_in(4) {
-        row_length(random, need)
-    } else {
-        need.min(20_000) as usize + more
     }
 }
 

@@ -1,0 +1,3 @@
+pub mod Handing
+pub mod Showing
+pub mod Unique
