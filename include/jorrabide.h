@@ -153,6 +153,33 @@ struct jorrabide_listed jorrabide_list_chains(
     uint32_t *work, size_t work_length,
     uint32_t *list, size_t list_length);
 
+/* What a question for room returns: a refusal's number and place and 0 elsewhere, or refusal 0, 1 for yes or 0 for no, and the results of
+   the run that stopped: the net flow into the sink at the stop and the steps taken, with the scale and the phases of the whole run. */
+struct jorrabide_room {
+    uint32_t refusal;
+    uint32_t place;
+    uint32_t stamp;
+    uint32_t yes;
+    uint64_t value;
+    uint64_t scale;
+    uint32_t phases;
+    uint64_t saturating;
+    uint64_t nonsaturating;
+    uint64_t relabels;
+};
+
+/* Says whether the table has room for at least q: yes exactly where solving it would give a value of at least q, 0 included. The run stops as
+   soon as q is reached, so a yes comes sooner than a solved table; no flow and no side come back. The minimums must all be 0, else the answer is
+   BOUNDED (21). The work row needs 4n + 3m + 1 numbers here, which are 0 afterwards. */
+struct jorrabide_room jorrabide_has_room_for(
+    uint32_t n, uint32_t s, uint32_t t, uint32_t stamp,
+    const uint32_t *tails, size_t tails_length,
+    const uint32_t *heads, size_t heads_length,
+    const uint32_t *capacities, size_t capacities_length,
+    const uint32_t *minimums, size_t minimums_length,
+    uint64_t q,
+    uint32_t *work, size_t work_length);
+
 #ifdef __cplusplus
 }
 #endif

@@ -15,7 +15,7 @@
 
 enum {
     SOLVE = 1, SOLVE_RECORDS, READ_PLACE, READ_TEXT, SERVE, OPEN, SERVER_SOLVE, SERVER_PLACE, WRITE_SOLUTION,
-    READ_SOLUTION, CHECK_PLAN, LIST_CHAINS
+    READ_SOLUTION, CHECK_PLAN, LIST_CHAINS, HAS_ROOM_FOR
 };
 enum { TAILS, HEADS, CAPACITIES, MINIMUMS, FLOW, SIDE, WORK, TEXT, OUT, FLOW_BYTES, LIST, ROWS };
 enum { KIND, NODES, SOURCE, SINK, STAMP, ANSWER_STAMP, PLACE, CAPACITY, LOWER_HALF, UPPER_HALF, LENGTHS };
@@ -108,6 +108,17 @@ struct jorrabide_listed jorrabide_list_chains(
     uint32_t n, uint32_t s, uint32_t t, uint32_t stamp, const uint32_t *tails, size_t, const uint32_t *heads, size_t,
     const uint32_t *capacities, size_t, const uint32_t *minimums, size_t,
     uint32_t *flow, size_t, uint8_t *side, size_t, uint32_t *work, size_t, uint32_t *list, size_t);
+
+/* Asking whether there is room for q. */
+struct jorrabide_room {
+    uint32_t refusal, place, stamp, yes;
+    uint64_t value, scale;
+    uint32_t phases;
+    uint64_t saturating, nonsaturating, relabels;
+};
+struct jorrabide_room jorrabide_has_room_for(
+    uint32_t n, uint32_t s, uint32_t t, uint32_t stamp, const uint32_t *tails, size_t, const uint32_t *heads, size_t,
+    const uint32_t *capacities, size_t, const uint32_t *minimums, size_t, uint64_t q, uint32_t *work, size_t);
 
 /* A row as the calls take it: where it begins and its length. */
 #define LENT_NUMBERS(row) numbers(row), (row).length
@@ -294,6 +305,15 @@ static void call_list_chains(const uint32_t *call, const struct row *rows, uint6
     result[9] = listed.filled;
 }
 
+/* Makes the call of asking whether there is room. */
+static void call_has_room_for(const uint32_t *call, const struct row *rows, uint64_t *result) {
+    struct jorrabide_room room =
+        jorrabide_has_room_for(TABLE_NUMBERS, TABLE_ROWS, long_number(call), LENT_NUMBERS(rows[WORK]));
+    const uint64_t fields[10] = {room.refusal, room.place, room.stamp, room.yes, room.value, room.scale,
+                                 room.phases, room.saturating, room.nonsaturating, room.relabels};
+    memcpy(result, fields, sizeof fields);
+}
+
 int main(void) {
     uint32_t call[HEADER];
     while (read_all(call, sizeof call)) {
@@ -313,6 +333,7 @@ int main(void) {
             case READ_SOLUTION: call_read_solution(call, rows, result); break;
             case CHECK_PLAN: call_check_plan(call, rows, result); break;
             case LIST_CHAINS: call_list_chains(call, rows, result); break;
+            case HAS_ROOM_FOR: call_has_room_for(call, rows, result); break;
             default: return 1;
         }
         write_all(result, sizeof result);

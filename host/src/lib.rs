@@ -11,6 +11,7 @@ pub mod opening;
 pub mod plan;
 pub mod reading;
 pub mod refusal;
+pub mod room;
 pub mod run;
 pub mod server;
 pub mod side;

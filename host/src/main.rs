@@ -5,7 +5,7 @@ use judge::compare::caller::Call;
 use judge::compare::texts::random_text;
 use judge::compare::{
     compare_calls, compare_named, compare_texts, wanted_of_texts, Calls, Comparison, Seen, CALLS, ENOUGH, LISTINGS,
-    OPENINGS, PLANS, READINGS, SERVER, SOLUTIONS,
+    OPENINGS, PLANS, QUESTIONS, READINGS, SERVER, SOLUTIONS,
 };
 use judge::desk::{desk, solution};
 use judge::families::{self, FAMILIES};
@@ -29,7 +29,8 @@ const USAGE: &str = "usage:
     server      the booking server's calls
     solutions   solution texts, written and read back
     plans       plans to check
-    listings    chains and rings, listed";
+    listings    chains and rings, listed
+    questions   whether there is room for so many";
 
 /// Writes the answer to standard input.
 fn answer_input(answer: impl Fn(&[u8]) -> Vec<u8>) -> io::Result<bool> {
@@ -175,6 +176,9 @@ fn run(arguments: &[&str]) -> io::Result<bool> {
         }
         ["listings", count, seed, command @ ..] if !command.is_empty() => {
             told_of_calls(&LISTINGS, comparison(count, seed, command)?)
+        }
+        ["questions", count, seed, command @ ..] if !command.is_empty() => {
+            told_of_calls(&QUESTIONS, comparison(count, seed, command)?)
         }
         _ => Err(io::Error::other(USAGE)),
     }

@@ -11,6 +11,8 @@ ghost use Rattle.solution.specs.Writing.{writing, left as leftWritten};
 ghost use Rattle.solution.specs.Reading.{reading as readingBack, left as leftRead};
 ghost use Rattle.plan.specs.Checking.{Checks};
 ghost use Rattle.chains.specs.Listing.{shownBy, listing, Shows};
+ghost use Rattle.asking.specs.Asking.{roomLeft, asking, Says};
+use asking::Room;
 use chains::Listed;
 use plan::Checked;
 use planner::Reading;
@@ -223,4 +225,24 @@ pub extern "C" fn jorrabide_list_chains(
         work,
         list,
     )
+}
+
+// `room::has_room_for`.
+#[no_mangle]
+pub extern "C" fn jorrabide_has_room_for(
+    n: u32,
+    s: u32,
+    t: u32,
+    stamp: u32,
+    tails: &[u32],
+    heads: &[u32],
+    capacities: &[u32],
+    minimums: &[u32],
+    q: u64,
+    work: &mut [u32],
+) -> Room
+    ensures exact { λ r. ⌜ roomLeft r (now (work .exit)) ≡ asking (boundedOf n s t (now (tails .entry)) (now (heads .entry)) (now (capacities .entry)) (now (minimums .entry))) stamp q (now (work .entry)) ⌝ }
+    ensures says { λ r. ⌜ (r .refusal ≡ 0 → Says (tableOf n s t (now (tails .entry)) (now (heads .entry)) (now (capacities .entry))) q r) ⌝ }
+{
+    room::has_room_for(n, s, t, stamp, tails, heads, capacities, minimums, q, work)
 }

@@ -2,13 +2,17 @@
 use Prim.Native.Nat.{ℕ, _+_, _-_, _≤_}
 use native.Mathlib.Omega.{arith}
 use mathlib.Core.Path.{_≡_, refl, ap, sym, _∙_, subst}
-use mathlib.Core.Bool.{Bool, true}
+use mathlib.Core.Bool.{Bool, true, true≢false}
 use mathlib.Core.List.{List}
+use borrow.Author.Tests.{ne-eqb}
+use lib.Dec.{eqb}
 use lib.ListN.{length, set, length-set}
 use Rattle.rows.specs.Row.{Node, atNode}
-use Rattle.rows.proofs.Sums.{by-equal, put-same, put-other}
+use Rattle.rows.specs.Sum.{only}
+use Rattle.rows.proofs.Sums.{by-equal, only-false, only-le, put-same, put-other}
 use Rattle.rows.proofs.Rows.{node-set}
 use Rattle.network.specs.Network.{isInner}
+use Rattle.network.proofs.Notions.{sink-test}
 use Rattle.table.specs.Table.{Table, networkOf}
 use Rattle.arcs.specs.Residual.{far, list}
 use Rattle.run.specs.Start.{State}
@@ -19,6 +23,8 @@ use Rattle.run.specs.Rows.{stateOf, runOf, Fits}
 use Rattle.run.specs.declared.Counts.{Counts}
 use Rattle.run.proofs.Networks.{by-cond}
 use Rattle.run.proofs.Arcs.{least-le}
+use Rattle.until.specs.Gain.{gainAlong}
+use Rattle.until.proofs.Gains.{gain-push, gain-relabel}
 use Rattle.looking.specs.Looked.{Looked, ValidLabels, HighBefore}
 use Rattle.looking.proofs.Keeping.{looked-push, looked-relabel}
 use Rattle.tournament.specs.Tournament.{key, LowLabels, rekeyed, Tournament}
@@ -27,7 +33,7 @@ use Rattle.steps.specs.Rows.{SpotIs}
 use Rattle.steps.specs.declared.Spot.the-variants.{At, End}
 use Rattle.steps.specs.declared.Lowest.{Lowest}
 use Rattle.steps.proofs.Searching.{found-at, found-none}
-use Rattle.work.specs.Held.{Relabels, Apart, Stepped, Ready}
+use Rattle.work.specs.Held.{Relabels, Apart, brought, Stepped, Ready}
 use Rattle.work.proofs.Stepping.{step-push, step-relabel}
 
 -- A store at node i changes no other node.
@@ -41,6 +47,14 @@ moved-apart t row i j d at-i at-j v ni nj =
     let first : atNode left v ≡ atNode row v = set-apart row i (atNode row i - d) at-i v ni in
     by-cond (λ (after : List ℕ). atNode after v ≡ atNode row v) (isInner (networkOf t) j) (set left (j - 1) (atNode left j + d)) left
     (λ _. set-apart left j (atNode left j + d) (at-j .0, omega (arith, length-set row (i - 1) (atNode row i - d), at-j .1)) v nj ∙ first) (λ _. first)
+
+-- What goes from i to the sink leaves node i's excess.
+moved-to-sink : (t : Table) (row : List ℕ) (i j d : ℕ) → Node (length row) i → j ≡ t .sink → atNode (moved t row i j d) i ≡ atNode row i - d
+moved-to-sink t row i j d at-i e =
+    let left = set row (i - 1) (atNode row i - d) in
+    by-cond (λ (after : List ℕ). atNode after i ≡ atNode row i - d) (isInner (networkOf t) j) (set left (j - 1) (atNode left j + d)) left
+    (λ inner. absurd (true≢false (sym inner ∙ sink-test (networkOf t) j e)))
+    (λ _. ap (λ (f : ℕ → ℕ). f i) (node-set row i (atNode row i - d) at-i) ∙ put-same (atNode row) i (atNode row i - d) i refl)
 
 -- Valid labels are low enough for keys.
 pub low-labels : (t : Table) (st : State) → t .nodes ≤ 512 → length (st .label) ≡ t .nodes → ValidLabels t st → LowLabels (st .label)
@@ -65,14 +79,32 @@ module _ (t : Table) (delta : ℕ) (st : State) (counts : Counts) (i : ℕ) (loo
       ap (λ (j : ℕ). atNode (moved t (st .excess) i j (amount t delta st i k)) v) (sym is)
       ∙ moved-apart t (st .excess) i other (amount t delta st i k) (node .0, omega (arith, node .1, fits .excess)) (there .0, omega (arith, there .1, fits .excess)) v ni nj
 
+  -- Where the far end is the sink, what the push moves leaves node i's excess,
+  push-falls : (k other : ℕ) → other ≡ far t i k → other ≡ t .sink → atNode (push t delta st i k .excess) i ≡ atNode (st .excess) i - amount t delta st i k
+  unfolding push
+  push-falls k other is e = moved-to-sink t (st .excess) i (far t i k) (amount t delta st i k) (node .0, omega (arith, node .1, fits .excess)) (sym is ∙ e)
+
+  -- and is what the sink is brought.
+  push-brings : (k other has : ℕ) → other ≡ far t i k → has ≡ atNode (push t delta st i k .excess) i
+      → brought (t .sink) other (atNode (st .excess) i) has ≡ gainAlong t delta st i k
+  push-brings k other has is has-is =
+      ap (λ (j : ℕ). only (eqb j (t .sink)) (atNode (st .excess) i - has)) is
+      ∙ by-equal (far t i k) (t .sink)
+      (λ e. ap (only (eqb (far t i k) (t .sink))) (omega (arith, has-is, push-falls k other is (is ∙ e))))
+      (λ ne.
+      only-false (eqb (far t i k) (t .sink)) (atNode (st .excess) i - has) (ne-eqb (far t i k) (t .sink) ne)
+      ∙ sym (only-false (eqb (far t i k) (t .sink)) (amount t delta st i k) (ne-eqb (far t i k) (t .sink) ne)))
+
   -- A push along the place where the search stopped.
   pub stepped-push : (p k other : ℕ) (full : Bool) → SpotIs t st i (list t i) (At p k) → Node (t .nodes) other → other ≡ far t i k
       → after ≡ push t delta st i k → full ≡ saturates t delta st i k → counted ≡ onePush counts full → looked-after ≡ set looked (i - 1) p
       → Stepped t delta (runOf st counts) i (runOf after counted) looked-after other
   stepped-push p k other full spot there other-is after-is full-is counted-is looked-is =
       let labels : after .label ≡ st .label = ap (λ (s : State). s .label) after-is ∙ push-label k in
+      let found = found-at t st i (list t i) p k (spot .0) (spot .1) (spot .2) (spot .3) in
+      let has-is : atNode (after .excess) i ≡ atNode (push t delta st i k .excess) i = ap (λ (s : State). atNode (s .excess) i) after-is in
       record {
-        is = step-push t delta st counts i after counted k full (found-at t st i (list t i) p k (spot .0) (spot .1) (spot .2) (spot .3)) after-is full-is counted-is;
+        is = step-push t delta st counts i after counted k full found after-is full-is counted-is;
         looked-on =
             rw (after-is, looked-is, spot .1)
             (looked-push t delta st looked i p node known (spot .0) (spot .2) (subst (λ (x : ℕ). eligible t st i x ≡ true) (spot .1) (spot .3)));
@@ -80,6 +112,8 @@ module _ (t : Table) (delta : ℕ) (st : State) (counts : Counts) (i : ℕ) (loo
         other-node = there;
         excess-apart = λ v ni nj. ap (λ (s : State). atNode (s .excess) v) after-is ∙ push-apart k other there other-is v ni nj;
         label-apart = λ v ni nj. ap (λ (row : List ℕ). atNode row v) labels;
+        falls = λ e. omega (arith, has-is, push-falls k other other-is e);
+        brings = gain-push t delta st i k _ found (push-brings k other (atNode (after .excess) i) other-is has-is);
       }
 
   -- Node i's label among the labels.
@@ -99,8 +133,10 @@ module _ (t : Table) (delta : ℕ) (st : State) (counts : Counts) (i : ℕ) (loo
       → Stepped t delta (runOf st counts) i (runOf after counted) looked-after i
   stepped-relabel found spot rel after-is counted-is looked-is =
       let labels : after .label ≡ set (st .label) (i - 1) (found .label) = ap (λ (s : State). s .label) after-is in
+      let none = found-none t st i (list t i) spot in
+      let same : atNode (after .excess) i ≡ atNode (st .excess) i = ap (λ (s : State). atNode (s .excess) i) after-is in
       record {
-        is = step-relabel t delta st counts i after counted (found .label) (found-none t st i (list t i) spot) (rel .label-is) after-is counted-is;
+        is = step-relabel t delta st counts i after counted (found .label) none (rel .label-is) after-is counted-is;
         looked-on =
             rw (after-is ∙ relabelled found rel, looked-is)
             (looked-relabel t st looked i (found .at) valid (fits .label) node known (rel .within) (subst (HighBefore t st i (list t i) (found .at)) (rel .label-is) (rel .high)));
@@ -108,6 +144,8 @@ module _ (t : Table) (delta : ℕ) (st : State) (counts : Counts) (i : ℕ) (loo
         other-node = node;
         excess-apart = λ v ni nj. ap (λ (s : State). atNode (s .excess) v) after-is;
         label-apart = λ v ni nj. ap (λ (row : List ℕ). atNode row v) labels ∙ set-apart (st .label) i (found .label) here v ni;
+        falls = λ e. omega (arith, same);
+        brings = omega (arith, same, only-le (eqb i (t .sink)) (atNode (st .excess) i - atNode (after .excess) i), gain-relabel t delta st i none);
       }
     where
       relabelled : (found : Lowest) → Relabels t st i found → stateOf (st .flow) (st .excess) (set (st .label) (i - 1) (found .label)) ≡ relabel t st i

@@ -1,3 +1,4 @@
 pub mod Stepping
 pub mod Advancing
 pub mod Phasing
+pub mod Going

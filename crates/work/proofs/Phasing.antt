@@ -110,9 +110,9 @@ module _ (t : Table) where
   next-delta ok done delta l e = rw add-one (ap (λ (x : ℕ). x / 2) e ∙ delta-half t ok done l)
 
   -- and the run goes on.
-  pub next-run : (done delta : ℕ) (now : Run) → delta ≡ deltaAfter t done → now ≡ after t done → phase t delta now ≡ after t (done + 1)
+  pub next-run : (done delta : ℕ) (now then : Run) → delta ≡ deltaAfter t done → now ≡ after t done → then ≡ phase t delta now → then ≡ after t (done + 1)
   unfolding after
-  next-run done delta now delta-is run-is = rw add-one (ap₂ (phase t) delta-is run-is)
+  next-run done delta now then delta-is run-is phased = rw add-one (phased ∙ ap₂ (phase t) delta-is run-is)
 
   -- With all phases done it is whole.
   pub whole-run : (done : ℕ) → done ≡ phaseCount t → after t done ≡ run t

@@ -1,9 +1,11 @@
 -- What the flow row and the work row hold while the run goes on: for the contracts of the run over one work row.
-use Prim.Native.Nat.{ℕ, _≤_, _<_}
+use Prim.Native.Nat.{ℕ, _-_, _≤_, _<_}
 use mathlib.Core.Path.{_≡_}
 use mathlib.Core.List.{List}
+use lib.Dec.{eqb}
 use lib.ListN.{length}
 use Rattle.rows.specs.Row.{Node, atNode}
+use Rattle.rows.specs.Sum.{only}
 use Rattle.table.specs.Table.{Table}
 use Rattle.arcs.specs.Residual.{list}
 use Rattle.arcs.specs.Work.{excessPart, labelsPart, SameLists}
@@ -11,12 +13,16 @@ use Rattle.run.specs.Start.{State}
 use Rattle.run.specs.Scale.{phaseCount, scale}
 use Rattle.run.specs.Relabel.{newLabel}
 use Rattle.run.specs.Phase.{Run, step, deltaAfter, after, run}
-use Rattle.run.specs.Rows.{stateOf, runOf}
+use Rattle.run.specs.Rows.{stateOf, runOf, steps}
 use Rattle.run.specs.declared.Counts.{Counts}
 use Rattle.run.specs.declared.Outcome.{Outcome}
+use Rattle.until.specs.Stepwise.{afterSteps}
+use Rattle.until.specs.Stopping.{intoSink, stepsUntil, stopped}
+use Rattle.until.specs.Gain.{gain}
 use Rattle.looking.specs.Looked.{Looked, HighBefore}
 use Rattle.tournament.specs.Tournament.{key, LowLabels, Tournament}
 use Rattle.steps.specs.declared.Lowest.{Lowest}
+use Rattle.work.specs.declared.Stop.{Stop}
 
 -- The state of n nodes that a flow row and a work row hold.
 abbrev pub stateIn : (n : ℕ) (flow work : List ℕ) → State
@@ -36,7 +42,12 @@ pub record Relabels (t : Table) (st : State) (i : ℕ) (found : Lowest) : Type 0
 abbrev pub Apart : ℕ → ℕ → List ℕ → List ℕ → Type 0
 Apart i j before after = (v : ℕ) → (v ≡ i → ⊥) → (v ≡ j → ⊥) → atNode after v ≡ atNode before v
 
--- What a step at node i leaves: document 01's step, how far each list was looked through, and nodes other than i and one more as they were.
+-- What left node i's excess, if it went to the sink.
+abbrev pub brought : (sink other had has : ℕ) → ℕ
+brought sink other had has = only (eqb other sink) (had - has)
+
+-- What a step at node i leaves: document 01's step, how far each list was looked through, and nodes other than i and one more as they were;
+-- if that one is the sink, it was brought what left node i.
 pub record Stepped (t : Table) (delta : ℕ) (before : Run) (i : ℕ) (after : Run) (looked : List ℕ) (other : ℕ) : Type 0 where
   pub is : after ≡ step t delta before i
   pub looked-on : Looked t (after .state) looked
@@ -44,6 +55,8 @@ pub record Stepped (t : Table) (delta : ℕ) (before : Run) (i : ℕ) (after : R
   pub other-node : Node (t .nodes) other
   pub excess-apart : Apart i other (before .state .excess) (after .state .excess)
   pub label-apart : Apart i other (before .state .label) (after .state .label)
+  pub falls : other ≡ t .sink → atNode (after .state .excess) i ≤ atNode (before .state .excess) i
+  pub brings : brought (t .sink) other (atNode (before .state .excess) i) (atNode (after .state .excess) i) ≡ gain t delta (before .state) i
 
 -- What the run keeps beside document 01's state: how far each list was looked through, and the tournament of the nodes' keys.
 pub record Ready (t : Table) (delta : ℕ) (st : State) (looked tree : List ℕ) : Type 0 where
@@ -56,6 +69,21 @@ pub record Between (t : Table) (delta : ℕ) (now : Run) : Type 0 where
   pub more : done < phaseCount t
   pub delta-is : delta ≡ deltaAfter t done
   pub run-is : now ≡ after t done
+
+-- The run that is to stop at q is under way: it took each step so far, and this is its net flow into the sink.
+pub record Underway (t : Table) (q : ℕ) (now : Run) (sink : ℕ) : Type 0 where
+  pub part-is : afterSteps t (steps (now .counts)) ≡ now
+  pub each : stepsUntil t q (steps (now .counts)) ≡ steps (now .counts)
+  pub sink-is : sink ≡ intoSink t (now .state .flow)
+
+-- What the run of an accepted table that stops at q leaves: its flow, counts and net flow into the sink; K and D of the whole run; the lists stand in the work row as they did.
+pub record RanUntil (t : Table) (q : ℕ) (work : List ℕ) (stop : Stop) (flow-left work-left : List ℕ) : Type 0 where
+  pub flow-is : flow-left ≡ stopped t q .state .flow
+  pub counts-are : stop .counts ≡ stopped t q .counts
+  pub sink-is : stop .sink ≡ intoSink t (stopped t q .state .flow)
+  pub phases-are : stop .phases ≡ phaseCount t
+  pub scale-is : stop .scale ≡ scale t
+  pub lists-stay : SameLists (t .nodes) work work-left
 
 -- What the run of an accepted table leaves: its flow, counts, K and D; the lists stand in the work row as they did.
 pub record Ran (t : Table) (work : List ℕ) (outcome : Outcome) (flow-left work-left : List ℕ) : Type 0 where

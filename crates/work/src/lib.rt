@@ -6,9 +6,9 @@ use steps::Lowest;
 use steps::Spot;
 ghost use mathlib.Core.Path.{_≡_};
 ghost use mathlib.Core.Bool.{true};
-ghost use Prim.Native.Nat.{ℕ, _-_, _^_, _≤_, _<_};
+ghost use Prim.Native.Nat.{ℕ, _+_, _-_, _^_, _≤_, _<_};
 ghost use lib.ListN.{length, set, replicate};
-ghost use Rattle.rows.specs.Row.{Node};
+ghost use Rattle.rows.specs.Row.{Node, atNode};
 ghost use Rattle.table.specs.Table.{tableOf};
 ghost use Rattle.table.specs.Accepted.{Accepted, ArcRows};
 ghost use Rattle.arcs.specs.Residual.{list};
@@ -16,17 +16,33 @@ ghost use Rattle.arcs.specs.Work.{startsAt, entriesAt, excessPart, labelsPart, 
 ghost use Rattle.run.specs.Start.{start};
 ghost use Rattle.run.specs.Scale.{largest, phasesFor, phaseCount};
 ghost use Rattle.run.specs.Push.{saturates, push};
-ghost use Rattle.run.specs.Phase.{step, phase, run};
+ghost use Rattle.run.specs.Phase.{step, phase};
 ghost use Rattle.run.specs.Rows.{steps, WithinCapacities, InPhase};
+ghost use Rattle.until.specs.Stopping.{intoSink, stopped};
+ghost use Rattle.until.specs.Gain.{gain};
 ghost use Rattle.looking.specs.Looked.{Looked, ValidLabels};
 ghost use Rattle.tournament.specs.Tournament.{key, LowLabels, rekeyed, Tournament};
 ghost use Rattle.steps.specs.Rows.{touching, SpotIs};
-ghost use Rattle.work.specs.Held.{stateIn, runIn, Relabels, Stepped, Ready, Between, Ran};
+ghost use Rattle.work.specs.Held.{stateIn, runIn, Relabels, brought, Stepped, Ready, Between, Underway, RanUntil, Ran};
 
 // What a step answers beside the rows: the counts, and the node beside the chosen one that it changed (after a relabel that is the chosen one again).
 struct Taken {
     counts: Counts,
     other: u32,
+}
+
+// The steps taken, and the net flow into the sink.
+struct Tally {
+    counts: Counts,
+    sink: u64,
+}
+
+// What the run that stops answers beside the rows: the steps taken and the net flow into the sink; K and D of the whole run.
+pub struct Stop {
+    pub counts: Counts,
+    pub sink: u64,
+    pub phases: u32,
+    pub scale: u64,
 }
 
 // The tournament of the keys of all nodes, whose excesses and labels the work row holds.
@@ -227,7 +243,27 @@ fn step(
     }
 }
 
-// One step at the chosen node i, with the keys of the nodes that it changed brought up to date.
+// Node i's excess.
+fn excess_at(n: u32, work: &[u32], i: u32) -> u32
+    requires { ⌜ (n ≤ length (now work)) × Node n i ⌝ }
+    ensures { λ r. ⌜ r ≡ atNode (excessPart n (now (work .entry))) i ⌝ }
+{
+    let nodes = n as usize;
+    rows::at_node(&work[0..nodes], i)
+}
+
+// What left a node's excess, if it went to the sink t: j is the node beside it that changed.
+fn brought(t: u32, j: u32, had: u32, has: u32) -> u64
+    requires { ⌜ (j ≡ t → has ≤ had) ⌝ }
+    ensures { λ r. ⌜ (r ≡ brought t j had has) × (r < 2 ^ 32) ⌝ }
+{
+    if j == t {
+        return rows::wide(had - has);
+    }
+    0
+}
+
+// One step at the chosen node i, with the keys of the nodes that it changed brought up to date, and what it brought to the sink added.
 fn turn(
     n: u32,
     s: u32,
@@ -240,15 +276,18 @@ fn turn(
     tree: &mut [u32],
     delta: u64,
     i: u32,
-    counts: Counts,
-) -> Counts
+    tally: Tally,
+) -> Tally
     requires { ⌜ ArcRows n (now tails) (now heads) (now capacities) × InWork (tableOf n s t (now tails) (now heads) (now capacities)) (now work) ⌝ }
-    requires { ⌜ InPhase (tableOf n s t (now tails) (now heads) (now capacities)) delta (stateIn n (now flow) (now work)) × Node n i × (steps counts < 2 ^ 63) ⌝ }
+    requires { ⌜ InPhase (tableOf n s t (now tails) (now heads) (now capacities)) delta (stateIn n (now flow) (now work)) × Node n i × (steps (tally .counts) < 2 ^ 63) × (tally .sink < 2 ^ 63) ⌝ }
     requires { ⌜ ValidLabels (tableOf n s t (now tails) (now heads) (now capacities)) (stateIn n (now flow) (now work)) × Ready (tableOf n s t (now tails) (now heads) (now capacities)) delta (stateIn n (now flow) (now work)) (lookedPart n (now work)) (now tree) ⌝ }
-    ensures { λ r. ⌜ runIn n (now (flow .exit)) (now (work .exit)) r ≡ step (tableOf n s t (now (tails .entry)) (now (heads .entry)) (now (capacities .entry))) delta (runIn n (now (flow .entry)) (now (work .entry)) counts) i ⌝ }
+    ensures { λ r. ⌜ runIn n (now (flow .exit)) (now (work .exit)) (r .counts) ≡ step (tableOf n s t (now (tails .entry)) (now (heads .entry)) (now (capacities .entry))) delta (runIn n (now (flow .entry)) (now (work .entry)) (tally .counts)) i ⌝ }
+    ensures { λ r. ⌜ r .sink ≡ tally .sink + gain (tableOf n s t (now (tails .entry)) (now (heads .entry)) (now (capacities .entry))) delta (stateIn n (now (flow .entry)) (now (work .entry))) i ⌝ }
     ensures { λ r. ⌜ Ready (tableOf n s t (now (tails .entry)) (now (heads .entry)) (now (capacities .entry))) delta (stateIn n (now (flow .exit)) (now (work .exit))) (lookedPart n (now (work .exit))) (now (tree .exit)) ⌝ }
     ensures { λ r. ⌜ SameLists n (now (work .entry)) (now (work .exit)) ⌝ }
 {
+    let before = tally.counts;
+    let had = excess_at(n, work, i);
     let done = step(
         n,
         s,
@@ -260,15 +299,20 @@ fn turn(
         work,
         delta,
         i,
-        counts,
+        before,
     );
+    let counts = done.counts;
     let other = done.other;
     refresh_key(n, work, tree, delta, i);
     refresh_key(n, work, tree, delta, other);
-    done.counts
+    let has = excess_at(n, work, i);
+    Tally {
+        counts: counts,
+        sink: tally.sink + brought(t, other, had, has),
+    }
 }
 
-// One phase: steps at the chosen node until there is none.
+// One phase: steps at the chosen node until there is none, or until the net flow into the sink has reached q.
 fn phase(
     n: u32,
     s: u32,
@@ -280,18 +324,23 @@ fn phase(
     work: &mut [u32],
     tree: &mut [u32],
     delta: u64,
-    counts: Counts,
-) -> Counts
+    tally: Tally,
+    q: u64,
+) -> Tally
     requires { ⌜ Accepted (tableOf n s t (now tails) (now heads) (now capacities)) × InWork (tableOf n s t (now tails) (now heads) (now capacities)) (now work) ⌝ }
-    requires { ⌜ Between (tableOf n s t (now tails) (now heads) (now capacities)) delta (runIn n (now flow) (now work) counts) ⌝ }
+    requires { ⌜ Between (tableOf n s t (now tails) (now heads) (now capacities)) delta (runIn n (now flow) (now work) (tally .counts)) × Underway (tableOf n s t (now tails) (now heads) (now capacities)) q (runIn n (now flow) (now work) (tally .counts)) (tally .sink) ⌝ }
     requires { ⌜ Looked (tableOf n s t (now tails) (now heads) (now capacities)) (stateIn n (now flow) (now work)) (lookedPart n (now work)) × (length (now tree) ≡ 1024) ⌝ }
-    ensures { λ r. ⌜ runIn n (now (flow .exit)) (now (work .exit)) r ≡ phase (tableOf n s t (now (tails .entry)) (now (heads .entry)) (now (capacities .entry))) delta (runIn n (now (flow .entry)) (now (work .entry)) counts) ⌝ }
+    ensures { λ r. ⌜ Underway (tableOf n s t (now (tails .entry)) (now (heads .entry)) (now (capacities .entry))) q (runIn n (now (flow .exit)) (now (work .exit)) (r .counts)) (r .sink) ⌝ }
+    ensures { λ r. ⌜ (r .sink < q → runIn n (now (flow .exit)) (now (work .exit)) (r .counts) ≡ phase (tableOf n s t (now (tails .entry)) (now (heads .entry)) (now (capacities .entry))) delta (runIn n (now (flow .entry)) (now (work .entry)) (tally .counts))) ⌝ }
     ensures { λ r. ⌜ Looked (tableOf n s t (now (tails .entry)) (now (heads .entry)) (now (capacities .entry))) (stateIn n (now (flow .exit)) (now (work .exit))) (lookedPart n (now (work .exit))) ⌝ }
     ensures { λ r. ⌜ SameLists n (now (work .entry)) (now (work .exit)) ⌝ }
 {
     build_keys(n, work, tree, delta);
-    let mut taken = counts;
+    let mut taken = tally;
     loop {
+        if q <= taken.sink {
+            break;
+        }
         let Choice::Node(i) = tournament::choose_from(tree) else {
             break;
         };
@@ -313,7 +362,7 @@ fn phase(
     taken
 }
 
-// The phases at Delta = D, D/2, .., 1, from the start on, with their steps counted.
+// The phases at Delta = D, D/2, .., 1, from the start on, until the net flow into the sink, at first `sink`, has reached q.
 fn phases(
     n: u32,
     s: u32,
@@ -325,22 +374,32 @@ fn phases(
     work: &mut [u32],
     tree: &mut [u32],
     count: u32,
-) -> Counts
+    sink: u64,
+    q: u64,
+) -> Tally
     requires { ⌜ Accepted (tableOf n s t (now tails) (now heads) (now capacities)) × InWork (tableOf n s t (now tails) (now heads) (now capacities)) (now work) ⌝ }
-    requires { ⌜ (stateIn n (now flow) (now work) ≡ start (tableOf n s t (now tails) (now heads) (now capacities))) × (count ≡ phaseCount (tableOf n s t (now tails) (now heads) (now capacities))) ⌝ }
+    requires { ⌜ (stateIn n (now flow) (now work) ≡ start (tableOf n s t (now tails) (now heads) (now capacities))) × (count ≡ phaseCount (tableOf n s t (now tails) (now heads) (now capacities))) × (sink ≡ intoSink (tableOf n s t (now tails) (now heads) (now capacities)) (start (tableOf n s t (now tails) (now heads) (now capacities)) .flow)) ⌝ }
     requires { ⌜ Looked (tableOf n s t (now tails) (now heads) (now capacities)) (stateIn n (now flow) (now work)) (lookedPart n (now work)) × (length (now tree) ≡ 1024) ⌝ }
-    ensures { λ r. ⌜ runIn n (now (flow .exit)) (now (work .exit)) r ≡ run (tableOf n s t (now (tails .entry)) (now (heads .entry)) (now (capacities .entry))) ⌝ }
+    ensures { λ r. ⌜ runIn n (now (flow .exit)) (now (work .exit)) (r .counts) ≡ stopped (tableOf n s t (now (tails .entry)) (now (heads .entry)) (now (capacities .entry))) q ⌝ }
+    ensures { λ r. ⌜ r .sink ≡ intoSink (tableOf n s t (now (tails .entry)) (now (heads .entry)) (now (capacities .entry))) (stopped (tableOf n s t (now (tails .entry)) (now (heads .entry)) (now (capacities .entry))) q .state .flow) ⌝ }
     ensures { λ r. ⌜ SameLists n (now (work .entry)) (now (work .exit)) ⌝ }
 {
-    let mut taken = Counts {
+    let none = Counts {
         saturating: 0,
         nonsaturating: 0,
         relabels: 0,
     };
+    let mut tally = Tally {
+        counts: none,
+        sink: sink,
+    };
     let mut done: u32 = 0;
     let mut delta = start::scale(count);
     while done < count {
-        taken = phase(
+        if q <= tally.sink {
+            break;
+        }
+        tally = phase(
             n,
             s,
             t,
@@ -351,12 +410,13 @@ fn phases(
             work,
             tree,
             delta,
-            taken,
+            tally,
+            q,
         );
         delta = delta / 2;
         done += 1;
     }
-    taken
+    tally
 }
 
 // The start, in the flow row and the first two parts of the work row.
@@ -399,7 +459,51 @@ pub fn work_need(n: u32, m: usize) -> usize
     4 * (n as usize) + 2 * m + 1
 }
 
-// The run of an accepted table whose lists stand in the work row, and stay there: the start, then the phases. The flow row has just its m places.
+// The run of an accepted table whose lists stand in the work row, and stay there: the start, then the phases, until the net flow into the sink has reached q. The flow row has just its m places.
+pub fn run_until(
+    n: u32,
+    s: u32,
+    t: u32,
+    tails: &[u32],
+    heads: &[u32],
+    capacities: &[u32],
+    q: u64,
+    flow: &mut [u32],
+    work: &mut [u32],
+) -> Stop
+    requires { ⌜ Accepted (tableOf n s t (now tails) (now heads) (now capacities)) × InWork (tableOf n s t (now tails) (now heads) (now capacities)) (now work) × (length (now flow) ≡ length (now capacities)) ⌝ }
+    ensures { λ r. ⌜ RanUntil (tableOf n s t (now (tails .entry)) (now (heads .entry)) (now (capacities .entry))) q (now (work .entry)) r (now (flow .exit)) (now (work .exit)) ⌝ }
+{
+    begin(n, s, t, tails, heads, capacities, flow, work);
+    clear_looked(n, work);
+    let count = count_phases(n, work);
+    let d = start::scale(count);
+    let sink = start::value(heads, tails, flow, t);
+    let mut tree = [0u32; 1024];
+    let taken = phases(
+        n,
+        s,
+        t,
+        tails,
+        heads,
+        capacities,
+        flow,
+        work,
+        &mut tree,
+        count,
+        sink,
+        q,
+    );
+    let counts = taken.counts;
+    Stop {
+        counts: counts,
+        sink: taken.sink,
+        phases: count,
+        scale: d,
+    }
+}
+
+// The whole run: the same with a q that no value reaches.
 pub fn run(
     n: u32,
     s: u32,
@@ -413,26 +517,11 @@ pub fn run(
     requires { ⌜ Accepted (tableOf n s t (now tails) (now heads) (now capacities)) × InWork (tableOf n s t (now tails) (now heads) (now capacities)) (now work) × (length (now flow) ≡ length (now capacities)) ⌝ }
     ensures { λ r. ⌜ Ran (tableOf n s t (now (tails .entry)) (now (heads .entry)) (now (capacities .entry))) (now (work .entry)) r (now (flow .exit)) (now (work .exit)) ⌝ }
 {
-    begin(n, s, t, tails, heads, capacities, flow, work);
-    clear_looked(n, work);
-    let count = count_phases(n, work);
-    let d = start::scale(count);
-    let mut tree = [0u32; 1024];
-    let taken = phases(
-        n,
-        s,
-        t,
-        tails,
-        heads,
-        capacities,
-        flow,
-        work,
-        &mut tree,
-        count,
-    );
+    let stop = run_until(n, s, t, tails, heads, capacities, 4096000001, flow, work);
+    let counts = stop.counts;
     Outcome {
-        counts: taken,
-        phases: count,
-        scale: d,
+        counts: counts,
+        phases: stop.phases,
+        scale: stop.scale,
     }
 }

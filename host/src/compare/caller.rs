@@ -6,6 +6,7 @@ use crate::desk::{desk_with_flow_of, serve};
 use crate::opening::{open, Opening};
 use crate::plan::check_plan;
 use crate::reading::read_place;
+use crate::room::has_room_for;
 use crate::server::{server_place, server_solve};
 use crate::solution::{read_solution, write_solution};
 use crate::solve::{solve, Answer};
@@ -40,6 +41,7 @@ pub enum Kind {
     ReadSolution,
     CheckPlan,
     ListChains,
+    HasRoomFor,
 }
 
 /// A call: its numbers and all rows that are lent to it. Numbers that it doesn't have are 0, rows that it doesn't have
@@ -278,6 +280,26 @@ fn make_listing(call: &mut Call) -> Numbers {
     numbers_and(answer, &[filled])
 }
 
+/// Asks whether there is room: ten numbers.
+fn make_asking(call: &mut Call) -> Numbers {
+    let room = has_room_for(&call.table.lent(), call.stamp, call.long, &mut call.work);
+    let ten = [
+        u64::from(room.refusal),
+        u64::from(room.place),
+        u64::from(room.stamp),
+        u64::from(room.yes),
+        room.value,
+        room.scale,
+        u64::from(room.phases),
+        room.saturating,
+        room.nonsaturating,
+        room.relabels,
+    ];
+    let mut numbers = [0; NUMBERS];
+    numbers[..10].copy_from_slice(&ten);
+    numbers
+}
+
 /// Makes the call by the independent program: its numbers; the call's rows are changed as the call changes them.
 fn make(call: &mut Call) -> Numbers {
     match call.kind {
@@ -290,6 +312,7 @@ fn make(call: &mut Call) -> Numbers {
         Kind::ReadSolution => make_reading_back(call),
         Kind::CheckPlan => make_checking(call),
         Kind::ListChains => make_listing(call),
+        Kind::HasRoomFor => make_asking(call),
         Kind::ServerSolve => make_server_solving(call),
         Kind::ServerPlace => make_server_reading(call),
     }

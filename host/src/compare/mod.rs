@@ -6,6 +6,7 @@ pub mod calls;
 pub mod listings;
 pub mod openings;
 pub mod plans;
+pub mod questions;
 pub mod random;
 pub mod readings;
 pub mod serving;
@@ -285,6 +286,15 @@ pub const LISTINGS: Calls = Calls {
     random: listings::random_listing,
     brought: listings::brought,
     wanted: listings::wanted,
+    enough: 5_000,
+};
+
+/// Asking whether there is room.
+pub const QUESTIONS: Calls = Calls {
+    what: "questions for room",
+    random: questions::random_question,
+    brought: questions::brought,
+    wanted: questions::wanted,
     enough: 5_000,
 };
 

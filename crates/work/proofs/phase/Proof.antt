@@ -1,9 +1,9 @@
--- `phase` meets its contract. The loop's invariant: the phase stands at a moment (`Amid`), the lists are as they were, how far they were looked
+-- `phase` meets its contract. The loop's invariant: the phase stands at a moment (`Going`), the lists are as they were, how far they were looked
 -- through is right, and the tournament is that of the keys.
 use Prim.Native.Nat.{ℕ, _<_}
 use Rattle.table.specs.Table.{Table, tableOf}
 use Rattle.run.specs.Choice.{choose}
-use Rattle.run.specs.Phase.{Run, step}
+use Rattle.run.specs.Phase.{Run}
 use Rattle.run.specs.declared.Choice.the-variants.{Node}
 use Rattle.tournament.specs.Tournament.{key, LowLabels, Tournament}
 use Rattle.arcs.specs.Work.{excessPart, labelsPart, lookedPart, SameLists, InWork}
@@ -11,7 +11,8 @@ use Rattle.arcs.proofs.Work.{length-labels, lists-on, lists-idle, in-work-kept}
 use Rattle.work.specs.Held.{stateIn, runIn, Ready}
 use Rattle.work.proofs.Stepping.{choice-is}
 use Rattle.work.proofs.Advancing.{low-labels}
-use Rattle.work.proofs.Phasing.{Amid, left, amid-first, amid-in-phase, amid-valid, amid-few, amid-node, amid-step, amid-less, amid-end}
+use Rattle.work.proofs.Phasing.{left, amid-in-phase, amid-valid, amid-few, amid-node, amid-end}
+use Rattle.work.proofs.Going.{Going, going-first, going-small, going-step, going-less}
 use lib.ListN.{length}
 use native.Mathlib.Omega.{arith}
 use mathlib.Core.Path.{_≡_, refl, sym, _∙_, subst⁻¹}
@@ -20,8 +21,8 @@ use Rattle.work.proofs.phase.Statement.{statement}
 use Rattle.work.proofs.phase.Tie as tie
 
 abbrev Inv-loop : tie.InvT-loop
-Inv-loop n s t tails heads capacities flow₀ work₀ tree₀ delta taken₀ flow work tree taken =
-    Amid (tableOf n s t tails heads capacities) delta (runIn n flow₀ work₀ taken₀) (runIn n flow work taken)
+Inv-loop n s t tails heads capacities flow₀ work₀ tree₀ delta q taken₀ flow work tree taken =
+    Going (tableOf n s t tails heads capacities) q delta (runIn n flow₀ work₀ (taken₀ .counts)) (runIn n flow work (taken .counts)) (taken .sink)
     × SameLists n work₀ work
     × (length flow ≡ length flow₀)
     × (length work ≡ length work₀)
@@ -29,8 +30,8 @@ Inv-loop n s t tails heads capacities flow₀ work₀ tree₀ delta taken₀ flo
     × Ready (tableOf n s t tails heads capacities) delta (stateIn n flow work) (lookedPart n work) tree
 
 abbrev μ-loop : tie.MeasureT-loop
-μ-loop n s t tails heads capacities flow₀ work₀ tree₀ delta taken₀ flow work tree taken =
-    left (tableOf n s t tails heads capacities) (runIn n flow₀ work₀ taken₀) (runIn n flow work taken)
+μ-loop n s t tails heads capacities flow₀ work₀ tree₀ delta q taken₀ flow work tree taken =
+    left (tableOf n s t tails heads capacities) (runIn n flow₀ work₀ (taken₀ .counts)) (runIn n flow work (taken .counts))
 
 -- The table, and how the phase begins: its labels are low enough for keys.
 module _ (start : tie.Start Inv-loop μ-loop) where
@@ -38,15 +39,15 @@ module _ (start : tie.Start Inv-loop μ-loop) where
   table-of = tableOf (start .args .n) (start .args .s) (start .args .t) (start .args .tails .now) (start .args .heads .now) (start .args .capacities .now)
 
   abbrev run-of : Run
-  run-of = runIn (start .args .n) (start .args .flow .now) (start .args .work .now) (start .args .counts)
+  run-of = runIn (start .args .n) (start .args .flow .now) (start .args .work .now) (start .args .tally .counts)
 
-  amid-begun : Amid table-of (start .args .delta) run-of run-of
-  amid-begun = amid-first table-of (start .pre .0 .0) (start .args .delta) run-of (start .pre .1 .0)
+  begins : Going table-of (start .args .q) (start .args .delta) run-of run-of (start .args .tally .sink)
+  begins = going-first table-of (start .pre .0 .0) (start .args .q) (start .args .delta) run-of (start .args .tally .sink) (start .pre .1 .0 .0) (start .pre .1 .0 .1)
 
   low-first : LowLabels (labelsPart (start .args .n) (start .args .work .now))
   low-first =
       low-labels table-of (run-of .state) (start .pre .0 .0 .rows .ends .few-nodes) (length-labels (start .args .n) (start .args .work .now) (omega (arith, start .pre .0 .1 .room)))
-      (amid-valid table-of (start .pre .0 .0) (start .args .delta) run-of run-of amid-begun)
+      (amid-valid table-of (start .pre .0 .0) (start .args .delta) run-of run-of (begins .amid))
 
 -- The entry, the table, the run there and the run at a turn of the loop.
 module _ (c : tie.At-loop Inv-loop μ-loop) where
@@ -60,7 +61,7 @@ module _ (c : tie.At-loop Inv-loop μ-loop) where
   first = run-of begun
 
   abbrev here : Run
-  here = runIn (begun .args .n) (c .loop .flow) (c .loop .work) (c .loop .taken)
+  here = runIn (begun .args .n) (c .loop .flow) (c .loop .work) (c .loop .taken .counts)
 
   -- The work row holds the lists still.
   in-work : InWork table (c .loop .work)
@@ -69,7 +70,7 @@ module _ (c : tie.At-loop Inv-loop μ-loop) where
 -- What the tournament answers is the choice.
 module _ (c : tie.After-choose-from Inv-loop μ-loop) where
   abbrev turning : tie.At-loop Inv-loop μ-loop
-  turning = c .before .before
+  turning = c .before .before .before .before
 
   answer : c .choose-from .result ≡ choose (table turning) (begun turning .args .delta) (here turning .state)
   answer =
@@ -78,7 +79,7 @@ module _ (c : tie.After-choose-from Inv-loop μ-loop) where
       let long = length-labels (start .args .n) (turning .loop .work) (omega (arith, in-work turning .room)) in
       let excess = excessPart (start .args .n) (turning .loop .work) in
       let labels = labelsPart (start .args .n) (turning .loop .work) in
-      let low = low-labels (table turning) (here turning .state) few long (amid-valid (table turning) (start .pre .0 .0) (start .args .delta) (first turning) (here turning) (turning .loop .inv .0)) in
+      let low = low-labels (table turning) (here turning .state) few long (amid-valid (table turning) (start .pre .0 .0) (start .args .delta) (first turning) (here turning) (turning .loop .inv .0 .amid)) in
       choice-is (table turning) (start .args .delta) (here turning .state) (c .choose-from .result)
       (c .choose-from .ensures (start .args .delta) excess labels (omega (arith, long)) low
       (subst⁻¹ (λ (m : ℕ). Tournament m (key (start .args .delta) excess labels) (turning .loop .tree)) long (turning .loop .inv .5 .keys)) .0)
@@ -87,7 +88,7 @@ module _ (c : tie.After-choose-from Inv-loop μ-loop) where
 -- A node is chosen.
 module _ (c : tie.After-known-told Inv-loop μ-loop) where
   abbrev at : tie.At-loop Inv-loop μ-loop
-  at = c .before .before .before .before .before
+  at = c .before .before .before .before .before .before .before
 
   abbrev node : ℕ
   node = c .before .i .given .0 .0
@@ -95,8 +96,9 @@ module _ (c : tie.After-known-told Inv-loop μ-loop) where
   chosen : choose (table at) (begun at .args .delta) (here at .state) ≡ Node node
   chosen = sym (answer (c .before .before .before)) ∙ c .before .i .given .1
 
-  next : Amid (table at) (begun at .args .delta) (first at) (step (table at) (begun at .args .delta) (here at) node)
-  next = amid-step (table at) (begun at .pre .0 .0) (begun at .args .delta) (first at) (here at) (at .loop .inv .0) node chosen
+  -- q is not reached.
+  below : at .loop .taken .sink < begun at .args .q
+  below = omega (arith, c .before .before .before .before .before .if1 .left)
 
 build-keys-requires : tie.Need-build-keys-requires Inv-loop μ-loop
 build-keys-requires c κs =
@@ -106,10 +108,10 @@ build-keys-requires c κs =
 loop-holds : tie.Need-loop-holds Inv-loop μ-loop
 loop-holds c =
     let start = c .before .before .before .before .before .before .before .before .before .before .before in
-    (amid-begun start, lists-idle (start .args .n) (start .args .work .now), refl, refl, refl, record { lists = start .pre .1 .1 .0; keys = c .before .before .build-keys .ensures })
+    (begins start, lists-idle (start .args .n) (start .args .work .now), refl, refl, refl, record { lists = start .pre .1 .1 .0; keys = c .before .before .build-keys .ensures })
 
 choose-from-requires : tie.Need-choose-from-requires Inv-loop μ-loop
-choose-from-requires c κs = c .before .loop .inv .5 .keys .size
+choose-from-requires c κs = c .before .before .before .loop .inv .5 .keys .size
 
 enum-known-i : tie.Need-enum-known-i Inv-loop μ-loop
 enum-known-i c = search needs
@@ -123,13 +125,14 @@ turn-requires c κs =
     let m = at told in
     let start = begun m in
     let ok = start .pre .0 .0 in
-    let amid = m .loop .inv .0 in (
+    let amid = m .loop .inv .0 .amid in (
       (ok .rows, in-work m),
       (
         (
           amid-in-phase (table m) ok (start .args .delta) (first m) (here m) amid,
           amid-node (table m) ok (start .args .delta) (first m) (here m) amid (node told) (chosen told),
           omega (arith, amid-few (table m) ok (start .args .delta) (first m) (here m) amid),
+          going-small (table m) ok (start .args .q) (start .args .delta) (first m) (here m) (m .loop .taken .sink) (m .loop .inv .0),
         ),
         (amid-valid (table m) ok (start .args .delta) (first m) (here m) amid, m .loop .inv .5),
       ),
@@ -140,8 +143,7 @@ loop-less c =
     let turned = c .before .before .before .before .before .before in
     let told = turned .before .before .before .before in
     let m = at told in
-    subst⁻¹ (λ (r : Run). left (table m) (first m) r < left (table m) (first m) (here m)) (turned .turn .ensures .0)
-    (amid-less (table m) (begun m .pre .0 .0) (begun m .args .delta) (first m) (here m) (m .loop .inv .0) (node told) (chosen told))
+    going-less (table m) (begun m .pre .0 .0) (begun m .args .q) (begun m .args .delta) (first m) (here m) (m .loop .taken .sink) (m .loop .inv .0) (node told) (chosen told) _ (turned .turn .ensures .0)
 
 loop-again : tie.Need-loop-again Inv-loop μ-loop
 loop-again c =
@@ -149,30 +151,48 @@ loop-again c =
     let told = turned .before .before .before .before in
     let m = at told in
     let inv = m .loop .inv in (
-      subst⁻¹ (Amid (table m) (begun m .args .delta) (first m)) (turned .turn .ensures .0) (next told),
-      lists-on (inv .1) (turned .turn .ensures .1 .1),
+      going-step (table m) (begun m .pre .0 .0) (begun m .args .q) (begun m .args .delta) (first m) (here m) (m .loop .taken .sink) (inv .0) (below told) (node told) (chosen told) _ (turned .turn .result .sink)
+          (turned .turn .ensures .0) (turned .turn .ensures .1 .0),
+      lists-on (inv .1) (turned .turn .ensures .1 .1 .1),
       turned .turn .kept .1 .1 .1 .1 .1 .1 .0 ∙ inv .2,
       turned .turn .kept .1 .1 .1 .1 .1 .1 .1 .0 ∙ inv .3,
       turned .turn .kept .1 .1 .1 .1 .1 .1 .1 .1 .0 ∙ inv .4,
-      turned .turn .ensures .1 .0,
+      turned .turn .ensures .1 .1 .0,
     )
 
 same-length : tie.Need-same-length Inv-loop μ-loop
-same-length c = c .before .before .before .before .loop .inv .2
+same-length c = c .before .before .loop .inv .2
 
 same-length-2 : tie.Need-same-length-2 Inv-loop μ-loop
-same-length-2 c = c .before .before .before .before .loop .inv .3
+same-length-2 c = c .before .before .loop .inv .3
 
 same-length-3 : tie.Need-same-length-3 Inv-loop μ-loop
-same-length-3 c = c .before .before .before .before .loop .inv .4 ∙ c .before .before .before .before .before .before .before .build-keys .kept .1 .1 .0
+same-length-3 c = c .before .before .loop .inv .4 ∙ c .before .before .before .before .before .build-keys .kept .1 .1 .0
 
 returns : tie.Need-returns Inv-loop μ-loop
 returns c =
+    let inv = c .before .before .loop .inv in
+    (inv .0 .under, (λ below. absurd (omega (arith, c .if1 .taken, below)), (inv .5 .lists, inv .1)))
+
+same-length-4 : tie.Need-same-length-4 Inv-loop μ-loop
+same-length-4 c = c .before .before .before .before .before .before .loop .inv .2
+
+same-length-5 : tie.Need-same-length-5 Inv-loop μ-loop
+same-length-5 c = c .before .before .before .before .before .before .loop .inv .3
+
+same-length-6 : tie.Need-same-length-6 Inv-loop μ-loop
+same-length-6 c = c .before .before .before .before .before .before .loop .inv .4 ∙ c .before .before .before .before .before .before .before .before .before .build-keys .kept .1 .1 .0
+
+returns-2 : tie.Need-returns-2 Inv-loop μ-loop
+returns-2 c =
     let asked = c .before .before in
-    let m = asked .before .before in
+    let m = asked .before .before .before .before in
     let start = begun m in (
-      amid-end (table m) (start .pre .0 .0) (start .args .delta) (first m) (here m) (m .loop .inv .0) (sym (answer asked) ∙ c .enum-told .given .1),
-      (m .loop .inv .5 .lists, m .loop .inv .1),
+      m .loop .inv .0 .under,
+      (
+        λ _. amid-end (table m) (start .pre .0 .0) (start .args .delta) (first m) (here m) (m .loop .inv .0 .amid) (sym (answer asked) ∙ c .enum-told .given .1),
+        (m .loop .inv .5 .lists, m .loop .inv .1),
+      ),
     )
 
 pub phase-spec : {M : Type 1} → statement M
@@ -192,4 +212,8 @@ phase-spec =
     same-length
     same-length-2
     same-length-3
-    returns)
+    returns
+    same-length-4
+    same-length-5
+    same-length-6
+    returns-2)

@@ -1,89 +1,11 @@
--- `run` meets its contract: the start, nothing looked through yet, then the phases.
-use Prim.Native.Nat.{ℕ}
-use Rattle.table.specs.Table.{Table, tableOf}
-use Rattle.run.specs.Start.{State, start}
-use Rattle.run.specs.Phase.{Run}
-use Rattle.run.specs.Scale.{largest, phasesFor, scaleOf, phaseCount}
-use Rattle.looking.specs.Looked.{Looked}
-use Rattle.looking.proofs.Keeping.{looked-none}
-use Rattle.arcs.specs.Work.{lookedPart, SameLists, InWork}
-use Rattle.arcs.proofs.Work.{lists-kept, lists-on, in-work-kept}
-use Rattle.work.specs.Held.{stateIn}
-use Rattle.work.proofs.Stepping.{same-state}
-use native.Mathlib.Omega.{arith}
-use mathlib.Core.List.{List}
-use mathlib.Core.Path.{_≡_, refl, ap, sym, _∙_}
+-- `run` meets its contract: no value is as large as its q, so it goes to the end.
+use Rattle.work.proofs.Going.{ran-whole}
 use borrow.Author.Needs.{needs}
 use Rattle.work.proofs.run.Statement.{statement}
 use Rattle.work.proofs.run.Tie as tie
 
--- The rows where the phases begin.
-module _ (c : tie.After-clear-looked) where
-  abbrev started : tie.After-begin
-  started = c .before .before .before .before .before .before
-
-  abbrev begun : tie.Start
-  begun = started .before .before .before .before .before .before .before .before
-
-  abbrev table : Table
-  table = tableOf (begun .args .n) (begun .args .s) (begun .args .t) (begun .args .tails .now) (begun .args .heads .now) (begun .args .capacities .now)
-
-  abbrev flow : List ℕ
-  flow = started .begin .last .1 .1 .1 .1 .1 .1 .0
-
-  abbrev first : List ℕ
-  first = started .begin .last .1 .1 .1 .1 .1 .1 .1 .0
-
-  abbrev work : List ℕ
-  work = c .clear-looked .last .1 .0
-
-  -- The state is the start,
-  state-is : stateIn (begun .args .n) flow work ≡ start table
-  state-is = same-state refl (c .clear-looked .ensures .0) (c .clear-looked .ensures .1 .0) ∙ started .begin .ensures .0
-
-  -- no list was looked through,
-  looked : Looked table (stateIn (begun .args .n) flow work) (lookedPart (begun .args .n) work)
-  looked = looked-none table (stateIn (begun .args .n) flow work) (lookedPart (begun .args .n) work) (c .clear-looked .ensures .1 .1 .0)
-
-  -- and the work row holds the lists still.
-  lists : SameLists (begun .args .n) (begun .args .work .now) work
-  lists = lists-on (lists-kept (begun .args .n) (begun .args .work .now) first (started .begin .ensures .1)) (c .clear-looked .ensures .1 .1 .1)
-
-  in-work : InWork table work
-  in-work = in-work-kept table (begun .args .work .now) work lists (sym (c .clear-looked .kept .1 .0 ∙ started .begin .kept .1 .1 .1 .1 .1 .1 .1 .0)) (begun .pre .1)
-
--- The number of phases is K.
-count-is : (c : tie.After-count-phases) → c .count-phases .result ≡ phaseCount (table (c .before .before .before .before))
-unfolding phaseCount
-count-is c = c .count-phases .ensures .0 ∙ ap (λ (st : State). phasesFor (largest (st .excess))) (state-is (c .before .before .before .before))
-
-begin-requires : tie.Need-begin-requires
-begin-requires c κs =
-    let start = c .before .before .before .before .before .before .before in
-    (start .pre .0 .rows, (omega (arith, start .pre .1 .room), start .pre .2))
-
-clear-looked-requires : tie.Need-clear-looked-requires
-clear-looked-requires c κs =
-    let m = c .before .before .before .before .before in
-    let start = m .before .before .before .before .before .before .before .before in
-    (start .pre .0 .rows .ends .few-nodes, omega (arith, start .pre .1 .room, m .begin .kept .1 .1 .1 .1 .1 .1 .1 .0))
-
-count-phases-requires : tie.Need-count-phases-requires
-count-phases-requires c κs =
-    let m = c .before .before .before in
-    omega (arith, begun m .pre .1 .room, started m .begin .kept .1 .1 .1 .1 .1 .1 .1 .0, m .clear-looked .kept .1 .0)
-
-scale-requires : tie.Need-scale-requires
-scale-requires c κs = search needs
-
-slice-aggregate-phases : tie.Need-slice-aggregate-phases
-slice-aggregate-phases c = search needs
-
-phases-requires : tie.Need-phases-requires
-phases-requires c κs =
-    let counted = c .before .before .before .before in
-    let m = counted .before .before .before .before in
-    ((begun m .pre .0, in-work m), ((state-is m, count-is counted), (looked m, search needs)))
+run-until-requires : tie.Need-run-until-requires
+run-until-requires c κs = search needs
 
 same-length : tie.Need-same-length
 same-length c = search needs
@@ -93,28 +15,9 @@ same-length-2 c = search needs
 
 returns : tie.Need-returns
 returns c =
-    let phased = c .before .before .before .before .before in
-    let scaled = phased .before .before .before .before in
-    let counted = scaled .before in
-    let m = counted .before .before .before .before in
-    record {
-      flow-is = ap (λ (r : Run). r .state .flow) (phased .phases .ensures .0);
-      counts-are = ap (λ (r : Run). r .counts) (phased .phases .ensures .0);
-      phases-are = count-is counted;
-      scale-is = scaled .scale .ensures ∙ ap scaleOf (count-is counted);
-      lists-stay = lists-on (lists m) (phased .phases .ensures .1);
-    }
+    let ran = c .before .before .before .before .before in
+    let start = ran .before .before .before .before .before .before .before .before in
+    ran-whole _ (start .pre .0) _ (ran .run-until .result) _ _ (ran .run-until .ensures)
 
 pub run-spec : {M : Type 1} → statement M
-run-spec =
-    tie.close
-    (tie.spec
-    begin-requires
-    clear-looked-requires
-    count-phases-requires
-    scale-requires
-    slice-aggregate-phases
-    phases-requires
-    same-length
-    same-length-2
-    returns)
+run-spec = tie.close (tie.spec run-until-requires same-length same-length-2 returns)

@@ -1,0 +1,5 @@
+pub mod Sink
+pub mod Gains
+pub mod Stepwise
+pub mod Growing
+pub mod Stopping
