@@ -180,6 +180,46 @@ struct jorrabide_room jorrabide_has_room_for(
     uint64_t q,
     uint32_t *work, size_t work_length);
 
+/* What finding the openings returns: solving's answer, and how many numbers of each list were filled, 0 with a refusal. */
+struct jorrabide_openings {
+    struct jorrabide_answer answer;
+    uint32_t sources;
+    uint32_t sinks;
+    uint32_t places;
+};
+
+/* What handing back the shorter list returns: a refusal's number and place, or refusal 0 and how many numbers were copied. */
+struct jorrabide_part {
+    uint32_t refusal;
+    uint32_t place;
+    uint32_t filled;
+};
+
+/* Solves the table, whose minimums must all be 0, and lists, rising, the nodes on the source side, the nodes that reach the sink, and the
+   places of the arcs that would help: raised by one unit, each by itself raises the value by one, and no other arc does. Where no place is
+   listed, full arcs lie one behind the other, and two or more have to open together. A list that can't hold its numbers is ROOM (5), and
+   nothing is written; n numbers are enough for each list of nodes, and as many as there are arcs for the places. Other rows as for solving. */
+struct jorrabide_openings jorrabide_find_openings(
+    uint32_t n, uint32_t s, uint32_t t, uint32_t stamp,
+    const uint32_t *tails, size_t tails_length,
+    const uint32_t *heads, size_t heads_length,
+    const uint32_t *capacities, size_t capacities_length,
+    const uint32_t *minimums, size_t minimums_length,
+    uint32_t *flow, size_t flow_length,
+    uint8_t *side, size_t side_length,
+    uint32_t *work, size_t work_length,
+    uint32_t *sources, size_t sources_length,
+    uint32_t *sinks, size_t sinks_length,
+    uint32_t *places, size_t places_length);
+
+/* Of two lists with their filled lengths copies the filled part of the shorter one to the front of the row `part`, that of the first if
+   equal, and nothing if a filled length passes its list. ROOM (5), with nothing written, if it does not fit. */
+struct jorrabide_part jorrabide_shorter(
+    const uint32_t *first, size_t first_length,
+    const uint32_t *second, size_t second_length,
+    uint32_t in_first, uint32_t in_second,
+    uint32_t *part, size_t part_length);
+
 #ifdef __cplusplus
 }
 #endif

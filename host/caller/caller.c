@@ -5,7 +5,8 @@
    lower half first), the lengths of the rows, then the rows. Numbers that a call doesn't have are 0, rows that it
    doesn't have are empty. For arc records the first four rows have one length; the records are made of them here, and
    the rows of the records afterwards. The server's calls take their arcs from the row of the text, and write their
-   result to the row out; solution texts are written to the row out.
+   result to the row out; solution texts are written to the row out. The filled lengths of two lists stand as the place
+   and the capacity.
    What is written: fourteen 64-bit numbers (the fields of what came back in their order, then 0), then the rows, then 1
    if nothing was written beside them. */
 #include <stdint.h>
@@ -15,9 +16,9 @@
 
 enum {
     SOLVE = 1, SOLVE_RECORDS, READ_PLACE, READ_TEXT, SERVE, OPEN, SERVER_SOLVE, SERVER_PLACE, WRITE_SOLUTION,
-    READ_SOLUTION, CHECK_PLAN, LIST_CHAINS, HAS_ROOM_FOR
+    READ_SOLUTION, CHECK_PLAN, LIST_CHAINS, HAS_ROOM_FOR, FIND_OPENINGS, SHORTER
 };
-enum { TAILS, HEADS, CAPACITIES, MINIMUMS, FLOW, SIDE, WORK, TEXT, OUT, FLOW_BYTES, LIST, ROWS };
+enum { TAILS, HEADS, CAPACITIES, MINIMUMS, FLOW, SIDE, WORK, TEXT, OUT, FLOW_BYTES, FIRST, SECOND, THIRD, ROWS };
 enum { KIND, NODES, SOURCE, SINK, STAMP, ANSWER_STAMP, PLACE, CAPACITY, LOWER_HALF, UPPER_HALF, LENGTHS };
 enum { HEADER = LENGTHS + ROWS };
 enum { NUMBERS = 14, FENCE = 64, FENCE_BYTE = 0xA5 };
@@ -119,6 +120,23 @@ struct jorrabide_room {
 struct jorrabide_room jorrabide_has_room_for(
     uint32_t n, uint32_t s, uint32_t t, uint32_t stamp, const uint32_t *tails, size_t, const uint32_t *heads, size_t,
     const uint32_t *capacities, size_t, const uint32_t *minimums, size_t, uint64_t q, uint32_t *work, size_t);
+
+/* Finding which openings would help, and handing back the filled part of the shorter list. */
+struct jorrabide_openings {
+    struct jorrabide_answer answer;
+    uint32_t sources, sinks, places;
+};
+struct jorrabide_part {
+    uint32_t refusal, place, filled;
+};
+struct jorrabide_openings jorrabide_find_openings(
+    uint32_t n, uint32_t s, uint32_t t, uint32_t stamp, const uint32_t *tails, size_t, const uint32_t *heads, size_t,
+    const uint32_t *capacities, size_t, const uint32_t *minimums, size_t,
+    uint32_t *flow, size_t, uint8_t *side, size_t, uint32_t *work, size_t,
+    uint32_t *sources, size_t, uint32_t *sinks, size_t, uint32_t *places, size_t);
+struct jorrabide_part jorrabide_shorter(
+    const uint32_t *first, size_t, const uint32_t *second, size_t, uint32_t in_first, uint32_t in_second,
+    uint32_t *part, size_t);
 
 /* A row as the calls take it: where it begins and its length. */
 #define LENT_NUMBERS(row) numbers(row), (row).length
@@ -300,7 +318,7 @@ static void call_check_plan(const uint32_t *call, const struct row *rows, uint64
 /* Makes the call of listing chains. */
 static void call_list_chains(const uint32_t *call, const struct row *rows, uint64_t *result) {
     struct jorrabide_listed listed = jorrabide_list_chains(
-        TABLE_NUMBERS, TABLE_ROWS, SOLVING_ROWS, LENT_NUMBERS(rows[LIST]));
+        TABLE_NUMBERS, TABLE_ROWS, SOLVING_ROWS, LENT_NUMBERS(rows[FIRST]));
     put_answer(listed.answer, result);
     result[9] = listed.filled;
 }
@@ -311,6 +329,24 @@ static void call_has_room_for(const uint32_t *call, const struct row *rows, uint
         jorrabide_has_room_for(TABLE_NUMBERS, TABLE_ROWS, long_number(call), LENT_NUMBERS(rows[WORK]));
     const uint64_t fields[10] = {room.refusal, room.place, room.stamp, room.yes, room.value, room.scale,
                                  room.phases, room.saturating, room.nonsaturating, room.relabels};
+    memcpy(result, fields, sizeof fields);
+}
+
+/* Makes the call of finding which openings would help. */
+static void call_find_openings(const uint32_t *call, const struct row *rows, uint64_t *result) {
+    struct jorrabide_openings found = jorrabide_find_openings(
+        TABLE_NUMBERS, TABLE_ROWS, SOLVING_ROWS, LENT_NUMBERS(rows[FIRST]), LENT_NUMBERS(rows[SECOND]),
+        LENT_NUMBERS(rows[THIRD]));
+    put_answer(found.answer, result);
+    const uint64_t filled[3] = {found.sources, found.sinks, found.places};
+    memcpy(result + 9, filled, sizeof filled);
+}
+
+/* Makes the call of handing back the filled part of the shorter list. */
+static void call_shorter(const uint32_t *call, const struct row *rows, uint64_t *result) {
+    struct jorrabide_part part = jorrabide_shorter(
+        LENT_NUMBERS(rows[FIRST]), LENT_NUMBERS(rows[SECOND]), call[PLACE], call[CAPACITY], LENT_NUMBERS(rows[THIRD]));
+    const uint64_t fields[3] = {part.refusal, part.place, part.filled};
     memcpy(result, fields, sizeof fields);
 }
 
@@ -334,6 +370,8 @@ int main(void) {
             case CHECK_PLAN: call_check_plan(call, rows, result); break;
             case LIST_CHAINS: call_list_chains(call, rows, result); break;
             case HAS_ROOM_FOR: call_has_room_for(call, rows, result); break;
+            case FIND_OPENINGS: call_find_openings(call, rows, result); break;
+            case SHORTER: call_shorter(call, rows, result); break;
             default: return 1;
         }
         write_all(result, sizeof result);

@@ -7,6 +7,7 @@ pub mod chains;
 pub mod compare;
 pub mod desk;
 pub mod families;
+pub mod help;
 pub mod opening;
 pub mod plan;
 pub mod reading;

@@ -4,8 +4,8 @@ use judge::boundaries;
 use judge::compare::caller::Call;
 use judge::compare::texts::random_text;
 use judge::compare::{
-    compare_calls, compare_named, compare_texts, wanted_of_texts, Calls, Comparison, Seen, CALLS, ENOUGH, LISTINGS,
-    OPENINGS, PLANS, QUESTIONS, READINGS, SERVER, SOLUTIONS,
+    compare_calls, compare_named, compare_texts, wanted_of_texts, Calls, Comparison, Seen, CALLS, ENOUGH, HELPS,
+    LISTINGS, OPENINGS, PLANS, QUESTIONS, READINGS, SERVER, SOLUTIONS,
 };
 use judge::desk::{desk, solution};
 use judge::families::{self, FAMILIES};
@@ -30,7 +30,8 @@ const USAGE: &str = "usage:
     solutions   solution texts, written and read back
     plans       plans to check
     listings    chains and rings, listed
-    questions   whether there is room for so many";
+    questions   whether there is room for so many
+    helps       which openings would help, and the shorter of two lists";
 
 /// Writes the answer to standard input.
 fn answer_input(answer: impl Fn(&[u8]) -> Vec<u8>) -> io::Result<bool> {
@@ -179,6 +180,9 @@ fn run(arguments: &[&str]) -> io::Result<bool> {
         }
         ["questions", count, seed, command @ ..] if !command.is_empty() => {
             told_of_calls(&QUESTIONS, comparison(count, seed, command)?)
+        }
+        ["helps", count, seed, command @ ..] if !command.is_empty() => {
+            told_of_calls(&HELPS, comparison(count, seed, command)?)
         }
         _ => Err(io::Error::other(USAGE)),
     }

@@ -2,7 +2,7 @@
 ghost use mathlib.Core.Path.{_≡_};
 ghost use Rattle.table.specs.Table.{tableOf};
 ghost use Rattle.minimums.specs.BoundedTable.{boundedOf};
-ghost use Rattle.solver.specs.Solving.{left};
+ghost use Rattle.solver.specs.Solving.{left, Meets};
 ghost use Rattle.planner.specs.Solving.{signedLeft, Solves, SolvesWell};
 ghost use Rattle.planner.specs.Reading.{reading};
 ghost use Rattle.opening.specs.Maximum.{MaximumFlow};
@@ -12,11 +12,16 @@ ghost use Rattle.solution.specs.Reading.{reading as readingBack, left as leftRe
 ghost use Rattle.plan.specs.Checking.{Checks};
 ghost use Rattle.chains.specs.Listing.{shownBy, listing, Shows};
 ghost use Rattle.asking.specs.Asking.{roomLeft, asking, Says};
+ghost use Rattle.openings.specs.Helping.{HelpsExactly};
+ghost use Rattle.openings.specs.Finding.{leftOpenings, finding};
+ghost use Rattle.shorter.specs.Shorter.{shorterOf, leftPart, copied};
 use asking::Room;
 use chains::Listed;
+use openings::Openings;
 use plan::Checked;
 use planner::Reading;
 use planner::Signed;
+use shorter::Part;
 use solution::ReadBack;
 use solution::Written;
 use solver::Answer;
@@ -245,4 +250,57 @@ pub extern "C" fn jorrabide_has_room_for(
     ensures says { λ r. ⌜ (r .refusal ≡ 0 → Says (tableOf n s t (now (tails .entry)) (now (heads .entry)) (now (capacities .entry))) q r) ⌝ }
 {
     room::has_room_for(n, s, t, stamp, tails, heads, capacities, minimums, q, work)
+}
+
+// `openings::find_openings`.
+#[no_mangle]
+pub extern "C" fn jorrabide_find_openings(
+    n: u32,
+    s: u32,
+    t: u32,
+    stamp: u32,
+    tails: &[u32],
+    heads: &[u32],
+    capacities: &[u32],
+    minimums: &[u32],
+    flow: &mut [u32],
+    side: &mut [u8],
+    work: &mut [u32],
+    sources: &mut [u32],
+    sinks: &mut [u32],
+    places: &mut [u32],
+) -> Openings
+    ensures exact { λ r. ⌜ leftOpenings r (now (flow .exit)) (now (side .exit)) (now (work .exit)) (now (sources .exit)) (now (sinks .exit)) (now (places .exit)) ≡ finding (boundedOf n s t (now (tails .entry)) (now (heads .entry)) (now (capacities .entry)) (now (minimums .entry))) stamp (now (flow .entry)) (now (side .entry)) (now (work .entry)) (now (sources .entry)) (now (sinks .entry)) (now (places .entry)) ⌝ }
+    ensures best { λ r. ⌜ (r .answer .refusal ≡ 0 → Meets (tableOf n s t (now (tails .entry)) (now (heads .entry)) (now (capacities .entry))) (left (r .answer) (now (flow .exit)) (now (side .exit)) (now (work .exit))) × HelpsExactly (tableOf n s t (now (tails .entry)) (now (heads .entry)) (now (capacities .entry)))) ⌝ }
+{
+    openings::find_openings(
+        n,
+        s,
+        t,
+        stamp,
+        tails,
+        heads,
+        capacities,
+        minimums,
+        flow,
+        side,
+        work,
+        sources,
+        sinks,
+        places,
+    )
+}
+
+// `shorter::copy_shorter`.
+#[no_mangle]
+pub extern "C" fn jorrabide_shorter<'a>(
+    first: &'a [u32],
+    second: &'a [u32],
+    in_first: u32,
+    in_second: u32,
+    part: &mut [u32],
+) -> Part
+    ensures { λ r. ⌜ leftPart r (now (part .exit)) ≡ copied (shorterOf (now (first .entry)) (now (second .entry)) in_first in_second) (now (part .entry)) ⌝ }
+{
+    shorter::copy_shorter(first, second, in_first, in_second, part)
 }

@@ -3,6 +3,7 @@ use super::tables::OwnTable;
 use crate::bounded::is_greatest;
 use crate::chains::list_chains;
 use crate::desk::{desk_with_flow_of, serve};
+use crate::help::{copy_shorter, find_openings, HelpLists};
 use crate::opening::{open, Opening};
 use crate::plan::check_plan;
 use crate::reading::read_place;
@@ -17,7 +18,7 @@ use std::ops::Range;
 pub const NUMBERS: usize = 14;
 
 /// How many lists of numbers a call may be lent.
-pub const LISTS: usize = 1;
+pub const LISTS: usize = 3;
 
 /// The numbers that come back from a call.
 pub type Numbers = [u64; NUMBERS];
@@ -42,12 +43,15 @@ pub enum Kind {
     CheckPlan,
     ListChains,
     HasRoomFor,
+    FindOpenings,
+    Shorter,
 }
 
 /// A call: its numbers and all rows that are lent to it. Numbers that it doesn't have are 0, rows that it doesn't have
 /// are empty. Reading a text is lent the table's rows, to write into. The server's calls have their arcs in the row of the
 /// text, and their result in the row `out`, which is also the row that a solution text is written to.
-/// What was done to a call, by its number, is not sent.
+/// The filled lengths of two lists stand as the place and the capacity. What was done to a call, by its number, is not
+/// sent.
 #[derive(Clone)]
 pub struct Call {
     pub kind: Kind,
@@ -300,6 +304,23 @@ fn make_asking(call: &mut Call) -> Numbers {
     numbers
 }
 
+/// Finds which openings would help: an answer's nine numbers, and how many of each list were filled.
+fn make_finding(call: &mut Call) -> Numbers {
+    let table = call.table.lent();
+    let (flow, side, work) = (&mut call.flow, &mut call.side, &mut call.work);
+    let [sources, sinks, places, ..] = &mut call.lists;
+    let lists = HelpLists { sources, sinks, places };
+    let (answer, filled) = find_openings(&table, call.stamp, flow, side, work, lists);
+    numbers_and(answer, &filled)
+}
+
+/// Hands back the filled part of the shorter list: three numbers.
+fn make_shorter(call: &mut Call) -> Numbers {
+    let [first_list, second_list, part, ..] = &mut call.lists;
+    let (refusal, filled) = copy_shorter(first_list, second_list, call.place, call.capacity, part);
+    first(&[refusal, 0, filled])
+}
+
 /// Makes the call by the independent program: its numbers; the call's rows are changed as the call changes them.
 fn make(call: &mut Call) -> Numbers {
     match call.kind {
@@ -313,6 +334,8 @@ fn make(call: &mut Call) -> Numbers {
         Kind::CheckPlan => make_checking(call),
         Kind::ListChains => make_listing(call),
         Kind::HasRoomFor => make_asking(call),
+        Kind::FindOpenings => make_finding(call),
+        Kind::Shorter => make_shorter(call),
         Kind::ServerSolve => make_server_solving(call),
         Kind::ServerPlace => make_server_reading(call),
     }

@@ -3,6 +3,7 @@
 
 pub mod caller;
 pub mod calls;
+pub mod helps;
 pub mod listings;
 pub mod openings;
 pub mod plans;
@@ -295,6 +296,15 @@ pub const QUESTIONS: Calls = Calls {
     random: questions::random_question,
     brought: questions::brought,
     wanted: questions::wanted,
+    enough: 5_000,
+};
+
+/// Finding which opening would help.
+pub const HELPS: Calls = Calls {
+    what: "searches for openings that help",
+    random: helps::random_help,
+    brought: helps::brought,
+    wanted: helps::wanted,
     enough: 5_000,
 };
 

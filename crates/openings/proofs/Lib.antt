@@ -1,0 +1,4 @@
+pub mod Sides
+pub mod Handing
+pub mod Finding
+pub mod Unique

@@ -1,0 +1,4 @@
+pub mod Helping
+pub mod Sides
+pub mod Finding
+pub mod Examples

@@ -1,0 +1,2 @@
+pub mod Existence
+pub mod Raising
