@@ -220,6 +220,37 @@ struct jorrabide_part jorrabide_shorter(
     uint32_t in_first, uint32_t in_second,
     uint32_t *part, size_t part_length);
 
+/* What reducing returns: solving's answer of the smaller table under the old stamp; and the smaller table's nodes, arcs, source, sink and
+   stamp, which is the old one raised by one. All 0 but number and place with a refusal. */
+struct jorrabide_reduced {
+    struct jorrabide_answer answer;
+    uint32_t nodes;
+    uint32_t arcs;
+    uint32_t source;
+    uint32_t sink;
+    uint32_t stamp;
+};
+
+/* Throws out what can't matter: the arcs of capacity 0, and the nodes that the source does not reach, or that don't reach the sink, over the
+   others. Writes the smaller table to the front of three rows, and to two more where each of its nodes (a number from 1) and arcs (a place
+   from 0) came from; solves it, and puts its flow back, 0 elsewhere: a maximum flow of the old table, whose side is marked in the side row.
+   The minimums must all be 0. The rows of the smaller table and of its arcs' origins need as many numbers as there are arcs, that of its
+   nodes' origins n. Other rows as for solving. */
+struct jorrabide_reduced jorrabide_reduce(
+    uint32_t n, uint32_t s, uint32_t t, uint32_t stamp,
+    const uint32_t *tails, size_t tails_length,
+    const uint32_t *heads, size_t heads_length,
+    const uint32_t *capacities, size_t capacities_length,
+    const uint32_t *minimums, size_t minimums_length,
+    uint32_t *flow, size_t flow_length,
+    uint8_t *side, size_t side_length,
+    uint32_t *work, size_t work_length,
+    uint32_t *small_tails, size_t small_tails_length,
+    uint32_t *small_heads, size_t small_heads_length,
+    uint32_t *small_capacities, size_t small_capacities_length,
+    uint32_t *nodes_from, size_t nodes_from_length,
+    uint32_t *arcs_from, size_t arcs_from_length);
+
 #ifdef __cplusplus
 }
 #endif

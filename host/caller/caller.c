@@ -16,9 +16,12 @@
 
 enum {
     SOLVE = 1, SOLVE_RECORDS, READ_PLACE, READ_TEXT, SERVE, OPEN, SERVER_SOLVE, SERVER_PLACE, WRITE_SOLUTION,
-    READ_SOLUTION, CHECK_PLAN, LIST_CHAINS, HAS_ROOM_FOR, FIND_OPENINGS, SHORTER
+    READ_SOLUTION, CHECK_PLAN, LIST_CHAINS, HAS_ROOM_FOR, FIND_OPENINGS, SHORTER, REDUCE
 };
-enum { TAILS, HEADS, CAPACITIES, MINIMUMS, FLOW, SIDE, WORK, TEXT, OUT, FLOW_BYTES, FIRST, SECOND, THIRD, ROWS };
+enum {
+    TAILS, HEADS, CAPACITIES, MINIMUMS, FLOW, SIDE, WORK, TEXT, OUT, FLOW_BYTES,
+    FIRST, SECOND, THIRD, FOURTH, FIFTH, ROWS
+};
 enum { KIND, NODES, SOURCE, SINK, STAMP, ANSWER_STAMP, PLACE, CAPACITY, LOWER_HALF, UPPER_HALF, LENGTHS };
 enum { HEADER = LENGTHS + ROWS };
 enum { NUMBERS = 14, FENCE = 64, FENCE_BYTE = 0xA5 };
@@ -137,6 +140,18 @@ struct jorrabide_openings jorrabide_find_openings(
 struct jorrabide_part jorrabide_shorter(
     const uint32_t *first, size_t, const uint32_t *second, size_t, uint32_t in_first, uint32_t in_second,
     uint32_t *part, size_t);
+
+/* Making a table smaller. */
+struct jorrabide_reduced {
+    struct jorrabide_answer answer;
+    uint32_t nodes, arcs, source, sink, stamp;
+};
+struct jorrabide_reduced jorrabide_reduce(
+    uint32_t n, uint32_t s, uint32_t t, uint32_t stamp, const uint32_t *tails, size_t, const uint32_t *heads, size_t,
+    const uint32_t *capacities, size_t, const uint32_t *minimums, size_t,
+    uint32_t *flow, size_t, uint8_t *side, size_t, uint32_t *work, size_t, uint32_t *small_tails, size_t,
+    uint32_t *small_heads, size_t, uint32_t *small_capacities, size_t, uint32_t *nodes_from, size_t,
+    uint32_t *arcs_from, size_t);
 
 /* A row as the calls take it: where it begins and its length. */
 #define LENT_NUMBERS(row) numbers(row), (row).length
@@ -350,6 +365,16 @@ static void call_shorter(const uint32_t *call, const struct row *rows, uint64_t 
     memcpy(result, fields, sizeof fields);
 }
 
+/* Makes the call of making a table smaller. */
+static void call_reduce(const uint32_t *call, const struct row *rows, uint64_t *result) {
+    struct jorrabide_reduced reduced = jorrabide_reduce(
+        TABLE_NUMBERS, TABLE_ROWS, SOLVING_ROWS, LENT_NUMBERS(rows[FIRST]), LENT_NUMBERS(rows[SECOND]),
+        LENT_NUMBERS(rows[THIRD]), LENT_NUMBERS(rows[FOURTH]), LENT_NUMBERS(rows[FIFTH]));
+    put_answer(reduced.answer, result);
+    const uint64_t sizes[5] = {reduced.nodes, reduced.arcs, reduced.source, reduced.sink, reduced.stamp};
+    memcpy(result + 9, sizes, sizeof sizes);
+}
+
 int main(void) {
     uint32_t call[HEADER];
     while (read_all(call, sizeof call)) {
@@ -372,6 +397,7 @@ int main(void) {
             case HAS_ROOM_FOR: call_has_room_for(call, rows, result); break;
             case FIND_OPENINGS: call_find_openings(call, rows, result); break;
             case SHORTER: call_shorter(call, rows, result); break;
+            case REDUCE: call_reduce(call, rows, result); break;
             default: return 1;
         }
         write_all(result, sizeof result);

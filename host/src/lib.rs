@@ -11,6 +11,7 @@ pub mod help;
 pub mod opening;
 pub mod plan;
 pub mod reading;
+pub mod reduce;
 pub mod refusal;
 pub mod room;
 pub mod run;

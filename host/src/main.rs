@@ -5,7 +5,7 @@ use judge::compare::caller::Call;
 use judge::compare::texts::random_text;
 use judge::compare::{
     compare_calls, compare_named, compare_texts, wanted_of_texts, Calls, Comparison, Seen, CALLS, ENOUGH, HELPS,
-    LISTINGS, OPENINGS, PLANS, QUESTIONS, READINGS, SERVER, SOLUTIONS,
+    LISTINGS, OPENINGS, PLANS, QUESTIONS, READINGS, REDUCTIONS, SERVER, SOLUTIONS,
 };
 use judge::desk::{desk, solution};
 use judge::families::{self, FAMILIES};
@@ -31,7 +31,8 @@ const USAGE: &str = "usage:
     plans       plans to check
     listings    chains and rings, listed
     questions   whether there is room for so many
-    helps       which openings would help, and the shorter of two lists";
+    helps       which openings would help, and the shorter of two lists
+    reductions  tables made smaller";
 
 /// Writes the answer to standard input.
 fn answer_input(answer: impl Fn(&[u8]) -> Vec<u8>) -> io::Result<bool> {
@@ -183,6 +184,9 @@ fn run(arguments: &[&str]) -> io::Result<bool> {
         }
         ["helps", count, seed, command @ ..] if !command.is_empty() => {
             told_of_calls(&HELPS, comparison(count, seed, command)?)
+        }
+        ["reductions", count, seed, command @ ..] if !command.is_empty() => {
+            told_of_calls(&REDUCTIONS, comparison(count, seed, command)?)
         }
         _ => Err(io::Error::other(USAGE)),
     }

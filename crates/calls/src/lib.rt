@@ -15,6 +15,10 @@ ghost use Rattle.asking.specs.Asking.{roomLeft, asking, Says};
 ghost use Rattle.openings.specs.Helping.{HelpsExactly};
 ghost use Rattle.openings.specs.Finding.{leftOpenings, finding};
 ghost use Rattle.shorter.specs.Shorter.{shorterOf, leftPart, copied};
+ghost use lib.ListN.{length, take};
+ghost use Rattle.run.specs.Demands.{Best};
+ghost use Rattle.keeping.specs.SmallRows.{smallRows};
+ghost use Rattle.smaller.specs.Reducing.{leftReduced, reducing};
 use asking::Room;
 use chains::Listed;
 use openings::Openings;
@@ -22,6 +26,7 @@ use plan::Checked;
 use planner::Reading;
 use planner::Signed;
 use shorter::Part;
+use smaller::Reduced;
 use solution::ReadBack;
 use solution::Written;
 use solver::Answer;
@@ -303,4 +308,47 @@ pub extern "C" fn jorrabide_shorter<'a>(
     ensures { λ r. ⌜ leftPart r (now (part .exit)) ≡ copied (shorterOf (now (first .entry)) (now (second .entry)) in_first in_second) (now (part .entry)) ⌝ }
 {
     shorter::copy_shorter(first, second, in_first, in_second, part)
+}
+
+// `smaller::reduce`.
+#[no_mangle]
+pub extern "C" fn jorrabide_reduce(
+    n: u32,
+    s: u32,
+    t: u32,
+    stamp: u32,
+    tails: &[u32],
+    heads: &[u32],
+    capacities: &[u32],
+    minimums: &[u32],
+    flow: &mut [u32],
+    side: &mut [u8],
+    work: &mut [u32],
+    small_tails: &mut [u32],
+    small_heads: &mut [u32],
+    small_capacities: &mut [u32],
+    nodes_from: &mut [u32],
+    arcs_from: &mut [u32],
+) -> Reduced
+    ensures exact { λ r. ⌜ leftReduced r (now (flow .exit)) (now (side .exit)) (now (work .exit)) (smallRows (now («small_tails» .exit)) (now («small_heads» .exit)) (now («small_capacities» .exit)) (now («nodes_from» .exit)) (now («arcs_from» .exit))) ≡ reducing (boundedOf n s t (now (tails .entry)) (now (heads .entry)) (now (capacities .entry)) (now (minimums .entry))) stamp (now (flow .entry)) (now (side .entry)) (now (work .entry)) (smallRows (now («small_tails» .entry)) (now («small_heads» .entry)) (now («small_capacities» .entry)) (now («nodes_from» .entry)) (now («arcs_from» .entry))) ⌝ }
+    ensures best { λ r. ⌜ (r .answer .refusal ≡ 0 → Best (tableOf n s t (now (tails .entry)) (now (heads .entry)) (now (capacities .entry))) (take (length (now (capacities .entry))) (now (flow .exit))) (take n (now (side .exit))) (r .answer .value)) ⌝ }
+{
+    smaller::reduce(
+        n,
+        s,
+        t,
+        stamp,
+        tails,
+        heads,
+        capacities,
+        minimums,
+        flow,
+        side,
+        work,
+        small_tails,
+        small_heads,
+        small_capacities,
+        nodes_from,
+        arcs_from,
+    )
 }

@@ -7,6 +7,7 @@ use crate::help::{copy_shorter, find_openings, HelpLists};
 use crate::opening::{open, Opening};
 use crate::plan::check_plan;
 use crate::reading::read_place;
+use crate::reduce::{reduce, SmallRows};
 use crate::room::has_room_for;
 use crate::server::{server_place, server_solve};
 use crate::solution::{read_solution, write_solution};
@@ -18,7 +19,7 @@ use std::ops::Range;
 pub const NUMBERS: usize = 14;
 
 /// How many lists of numbers a call may be lent.
-pub const LISTS: usize = 3;
+pub const LISTS: usize = 5;
 
 /// The numbers that come back from a call.
 pub type Numbers = [u64; NUMBERS];
@@ -45,6 +46,7 @@ pub enum Kind {
     HasRoomFor,
     FindOpenings,
     Shorter,
+    Reduce,
 }
 
 /// A call: its numbers and all rows that are lent to it. Numbers that it doesn't have are 0, rows that it doesn't have
@@ -321,6 +323,22 @@ fn make_shorter(call: &mut Call) -> Numbers {
     first(&[refusal, 0, filled])
 }
 
+/// Makes the smaller table and solves it: an answer's nine numbers, and the small table's five.
+fn make_reducing(call: &mut Call) -> Numbers {
+    let table = call.table.lent();
+    let (flow, side, work) = (&mut call.flow, &mut call.side, &mut call.work);
+    let [tails, heads, capacities, nodes_from, arcs_from] = &mut call.lists;
+    let rows = &mut SmallRows {
+        tails,
+        heads,
+        capacities,
+        nodes_from,
+        arcs_from,
+    };
+    let (answer, sizes) = reduce(&table, call.stamp, flow, side, work, rows);
+    numbers_and(answer, &sizes)
+}
+
 /// Makes the call by the independent program: its numbers; the call's rows are changed as the call changes them.
 fn make(call: &mut Call) -> Numbers {
     match call.kind {
@@ -336,6 +354,7 @@ fn make(call: &mut Call) -> Numbers {
         Kind::HasRoomFor => make_asking(call),
         Kind::FindOpenings => make_finding(call),
         Kind::Shorter => make_shorter(call),
+        Kind::Reduce => make_reducing(call),
         Kind::ServerSolve => make_server_solving(call),
         Kind::ServerPlace => make_server_reading(call),
     }

@@ -62,7 +62,7 @@ fn shorter_call(random: &mut Random) -> Call {
     Call {
         place,
         capacity,
-        lists: [first, second, part],
+        lists: [first, second, part, Vec::new(), Vec::new()],
         ..Call::of(Kind::Shorter, OwnTable::without_arcs(0, 0, 0))
     }
 }
@@ -75,9 +75,9 @@ pub fn random_help(seed: u64, index: u64) -> Call {
     }
     let table = asked_table(random);
     let needs = help_of(&table.lent()).map_or([1; 3], |help| needs(&help));
-    let lists = lists_for(random, needs);
+    let [sources, sinks, places] = lists_for(random, needs);
     Call {
-        lists,
+        lists: [sources, sinks, places, Vec::new(), Vec::new()],
         ..solving_call(random, Kind::FindOpenings, table)
     }
 }
@@ -142,7 +142,7 @@ fn brought_by_search(call: &Call, numbers: &Numbers) -> Vec<String> {
 
 /// What handing back the shorter list brings.
 fn brought_by_shorter(call: &Call) -> Vec<String> {
-    let [first, second, part] = &call.lists;
+    let [first, second, part, ..] = &call.lists;
     let passes = |filled: u32, list: &Vec<u32>| filled as usize > list.len();
     let handed = match (passes(call.place, first), passes(call.capacity, second)) {
         (true, true) => "both pass their lists",

@@ -10,6 +10,7 @@ pub mod plans;
 pub mod questions;
 pub mod random;
 pub mod readings;
+pub mod reductions;
 pub mod serving;
 pub mod solutions;
 pub mod spacing;
@@ -305,6 +306,15 @@ pub const HELPS: Calls = Calls {
     random: helps::random_help,
     brought: helps::brought,
     wanted: helps::wanted,
+    enough: 5_000,
+};
+
+/// Making tables smaller.
+pub const REDUCTIONS: Calls = Calls {
+    what: "tables made smaller",
+    random: reductions::random_reduction,
+    brought: reductions::brought,
+    wanted: reductions::wanted,
     enough: 5_000,
 };
 

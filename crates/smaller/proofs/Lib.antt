@@ -1,0 +1,3 @@
+pub mod Living
+pub mod Reducing
+pub mod Unique
