@@ -251,6 +251,37 @@ struct jorrabide_reduced jorrabide_reduce(
     uint32_t *nodes_from, size_t nodes_from_length,
     uint32_t *arcs_from, size_t arcs_from_length);
 
+/* What solving a month returns: a refusal of the whole call, its number and place and 0 elsewhere, or refusal 0 with the tables solved, their
+   total value, and the first solved day of least value, counted from 1; 0 if none is solved. */
+struct jorrabide_month {
+    uint32_t refusal;
+    uint32_t place;
+    uint32_t solved;
+    uint64_t total;
+    uint32_t day;
+};
+
+/* Solves up to 31 day tables whose arcs are joined in shared rows, each as if given by itself. Day j, counted from 0, has the arcs from starts[j]
+   up to where the next day starts, or the rows' end, with nodes[j], sources[j], sinks[j] and stamps[j]; a minimum above 0 is BOUNDED (21) for that
+   day. Its flows stand in its arcs' places, its marks from 512 j, and nine numbers from 9 j of the answer row: the refusal or 0, the place within the
+   day, the stamp, the value, the scale, the phases, the saturating pushes, nonsaturating pushes and relabels. For m arcs and k days the flow row needs
+   m numbers, the side row 512 k marks, the answer row 9 k numbers; the work row 4n + 2m + 1 for the largest day, and a day that needs more is refused
+   by itself (ROOM). A refused day leaves its flows and marks as they were. */
+struct jorrabide_month jorrabide_solve_month(
+    const uint32_t *starts, size_t starts_length,
+    const uint32_t *nodes, size_t nodes_length,
+    const uint32_t *sources, size_t sources_length,
+    const uint32_t *sinks, size_t sinks_length,
+    const uint32_t *stamps, size_t stamps_length,
+    const uint32_t *tails, size_t tails_length,
+    const uint32_t *heads, size_t heads_length,
+    const uint32_t *capacities, size_t capacities_length,
+    const uint32_t *minimums, size_t minimums_length,
+    uint32_t *flow, size_t flow_length,
+    uint8_t *side, size_t side_length,
+    uint32_t *work, size_t work_length,
+    uint64_t *answers, size_t answers_length);
+
 #ifdef __cplusplus
 }
 #endif

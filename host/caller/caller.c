@@ -6,7 +6,7 @@
    doesn't have are empty. For arc records the first four rows have one length; the records are made of them here, and
    the rows of the records afterwards. The server's calls take their arcs from the row of the text, and write their
    result to the row out; solution texts are written to the row out. The filled lengths of two lists stand as the place
-   and the capacity.
+   and the capacity. A month's starts, n, s, t and stamps stand in the five lists.
    What is written: fourteen 64-bit numbers (the fields of what came back in their order, then 0), then the rows, then 1
    if nothing was written beside them. */
 #include <stdint.h>
@@ -16,11 +16,12 @@
 
 enum {
     SOLVE = 1, SOLVE_RECORDS, READ_PLACE, READ_TEXT, SERVE, OPEN, SERVER_SOLVE, SERVER_PLACE, WRITE_SOLUTION,
-    READ_SOLUTION, CHECK_PLAN, LIST_CHAINS, HAS_ROOM_FOR, FIND_OPENINGS, SHORTER, REDUCE
+    READ_SOLUTION, CHECK_PLAN, LIST_CHAINS, HAS_ROOM_FOR, FIND_OPENINGS, SHORTER, REDUCE,
+    SOLVE_MONTH
 };
 enum {
     TAILS, HEADS, CAPACITIES, MINIMUMS, FLOW, SIDE, WORK, TEXT, OUT, FLOW_BYTES,
-    FIRST, SECOND, THIRD, FOURTH, FIFTH, ROWS
+    FIRST, SECOND, THIRD, FOURTH, FIFTH, ANSWERS, ROWS
 };
 enum { KIND, NODES, SOURCE, SINK, STAMP, ANSWER_STAMP, PLACE, CAPACITY, LOWER_HALF, UPPER_HALF, LENGTHS };
 enum { HEADER = LENGTHS + ROWS };
@@ -153,6 +154,18 @@ struct jorrabide_reduced jorrabide_reduce(
     uint32_t *small_heads, size_t, uint32_t *small_capacities, size_t, uint32_t *nodes_from, size_t,
     uint32_t *arcs_from, size_t);
 
+/* Solving a month. */
+struct jorrabide_month {
+    uint32_t refusal, place, solved;
+    uint64_t total;
+    uint32_t day;
+};
+struct jorrabide_month jorrabide_solve_month(
+    const uint32_t *starts, size_t, const uint32_t *nodes, size_t, const uint32_t *sources, size_t,
+    const uint32_t *sinks, size_t, const uint32_t *stamps, size_t, const uint32_t *tails, size_t,
+    const uint32_t *heads, size_t, const uint32_t *capacities, size_t, const uint32_t *minimums, size_t,
+    uint32_t *flow, size_t, uint8_t *side, size_t, uint32_t *work, size_t, uint64_t *answers, size_t);
+
 /* A row as the calls take it: where it begins and its length. */
 #define LENT_NUMBERS(row) numbers(row), (row).length
 #define LENT_BYTES(row) bytes(row), (row).length
@@ -219,8 +232,14 @@ static uint8_t *bytes(struct row row) { return row.memory + row.start; }
 /* The numbers of a row. */
 static uint32_t *numbers(struct row row) { return (uint32_t *)bytes(row); }
 
+/* The 64-bit numbers of a row. */
+static uint64_t *long_numbers(struct row row) { return (uint64_t *)bytes(row); }
+
 /* How many bytes a place of a row takes. */
-static size_t width(int row) { return row == SIDE || row == TEXT || row == OUT || row == FLOW_BYTES ? 1 : 4; }
+static size_t width(int row) {
+    if (row == ANSWERS) return 8;
+    return row == SIDE || row == TEXT || row == OUT || row == FLOW_BYTES ? 1 : 4;
+}
 
 /* 1 if both fences of a row are as they were. */
 static int is_fenced(struct row row) {
@@ -375,6 +394,15 @@ static void call_reduce(const uint32_t *call, const struct row *rows, uint64_t *
     memcpy(result + 9, sizes, sizeof sizes);
 }
 
+/* Makes the call of solving a month. */
+static void call_solve_month(const struct row *rows, uint64_t *result) {
+    struct jorrabide_month month = jorrabide_solve_month(
+        LENT_NUMBERS(rows[FIRST]), LENT_NUMBERS(rows[SECOND]), LENT_NUMBERS(rows[THIRD]), LENT_NUMBERS(rows[FOURTH]),
+        LENT_NUMBERS(rows[FIFTH]), TABLE_ROWS, SOLVING_ROWS, long_numbers(rows[ANSWERS]), rows[ANSWERS].length);
+    const uint64_t fields[5] = {month.refusal, month.place, month.solved, month.total, month.day};
+    memcpy(result, fields, sizeof fields);
+}
+
 int main(void) {
     uint32_t call[HEADER];
     while (read_all(call, sizeof call)) {
@@ -398,6 +426,7 @@ int main(void) {
             case FIND_OPENINGS: call_find_openings(call, rows, result); break;
             case SHORTER: call_shorter(call, rows, result); break;
             case REDUCE: call_reduce(call, rows, result); break;
+            case SOLVE_MONTH: call_solve_month(rows, result); break;
             default: return 1;
         }
         write_all(result, sizeof result);

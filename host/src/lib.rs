@@ -8,6 +8,7 @@ pub mod compare;
 pub mod desk;
 pub mod families;
 pub mod help;
+pub mod month;
 pub mod opening;
 pub mod plan;
 pub mod reading;

@@ -5,7 +5,7 @@ use judge::compare::caller::Call;
 use judge::compare::texts::random_text;
 use judge::compare::{
     compare_calls, compare_named, compare_texts, wanted_of_texts, Calls, Comparison, Seen, CALLS, ENOUGH, HELPS,
-    LISTINGS, OPENINGS, PLANS, QUESTIONS, READINGS, REDUCTIONS, SERVER, SOLUTIONS,
+    LISTINGS, MONTHS, OPENINGS, PLANS, QUESTIONS, READINGS, REDUCTIONS, SERVER, SOLUTIONS,
 };
 use judge::desk::{desk, solution};
 use judge::families::{self, FAMILIES};
@@ -32,7 +32,8 @@ const USAGE: &str = "usage:
     listings    chains and rings, listed
     questions   whether there is room for so many
     helps       which openings would help, and the shorter of two lists
-    reductions  tables made smaller";
+    reductions  tables made smaller
+    months      days' tables in one call";
 
 /// Writes the answer to standard input.
 fn answer_input(answer: impl Fn(&[u8]) -> Vec<u8>) -> io::Result<bool> {
@@ -187,6 +188,9 @@ fn run(arguments: &[&str]) -> io::Result<bool> {
         }
         ["reductions", count, seed, command @ ..] if !command.is_empty() => {
             told_of_calls(&REDUCTIONS, comparison(count, seed, command)?)
+        }
+        ["months", count, seed, command @ ..] if !command.is_empty() => {
+            told_of_calls(&MONTHS, comparison(count, seed, command)?)
         }
         _ => Err(io::Error::other(USAGE)),
     }

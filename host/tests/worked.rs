@@ -161,6 +161,8 @@ fn names_have_their_numbers_and_words() {
     ];
     let later = [
         (16, (Name::Solution, "SOLUTION")),
+        (17, (Name::Many, "MANY")),
+        (18, (Name::Starts, "STARTS")),
         (19, (Name::Minimum, "MINIMUM")),
         (20, (Name::Impossible, "IMPOSSIBLE")),
         (21, (Name::Bounded, "BOUNDED")),

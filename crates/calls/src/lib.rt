@@ -19,8 +19,12 @@ ghost use lib.ListN.{length, take};
 ghost use Rattle.run.specs.Demands.{Best};
 ghost use Rattle.keeping.specs.SmallRows.{smallRows};
 ghost use Rattle.smaller.specs.Reducing.{leftReduced, reducing};
+ghost use Rattle.days.specs.Days.{daysOf};
+ghost use Rattle.days.specs.Month.{monthLeft, month};
+ghost use Rattle.days.specs.Promises.{EachDay};
 use asking::Room;
 use chains::Listed;
+use days::Month;
 use openings::Openings;
 use plan::Checked;
 use planner::Reading;
@@ -350,5 +354,42 @@ pub extern "C" fn jorrabide_reduce(
         small_capacities,
         nodes_from,
         arcs_from,
+    )
+}
+
+// `month::solve_month`.
+#[no_mangle]
+pub extern "C" fn jorrabide_solve_month(
+    starts: &[u32],
+    nodes: &[u32],
+    sources: &[u32],
+    sinks: &[u32],
+    stamps: &[u32],
+    tails: &[u32],
+    heads: &[u32],
+    capacities: &[u32],
+    minimums: &[u32],
+    flow: &mut [u32],
+    side: &mut [u8],
+    work: &mut [u32],
+    answers: &mut [u64],
+) -> Month
+    ensures exact { λ r. ⌜ monthLeft r (now (flow .exit)) (now (side .exit)) (now (work .exit)) (now (answers .exit)) ≡ month (daysOf (now (starts .entry)) (now (nodes .entry)) (now (sources .entry)) (now (sinks .entry)) (now (stamps .entry)) (now (tails .entry)) (now (heads .entry)) (now (capacities .entry)) (now (minimums .entry))) (now (flow .entry)) (now (side .entry)) (now (work .entry)) (now (answers .entry)) ⌝ }
+    ensures each { λ r. ⌜ (r .refusal ≡ 0 → EachDay (daysOf (now (starts .entry)) (now (nodes .entry)) (now (sources .entry)) (now (sinks .entry)) (now (stamps .entry)) (now (tails .entry)) (now (heads .entry)) (now (capacities .entry)) (now (minimums .entry))) (now (flow .entry)) (now (side .entry)) (now (work .entry)) (now (flow .exit)) (now (side .exit)) (now (work .exit)) (now (answers .exit)) r) ⌝ }
+{
+    month::solve_month(
+        starts,
+        nodes,
+        sources,
+        sinks,
+        stamps,
+        tails,
+        heads,
+        capacities,
+        minimums,
+        flow,
+        side,
+        work,
+        answers,
     )
 }

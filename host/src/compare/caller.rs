@@ -4,6 +4,7 @@ use crate::bounded::is_greatest;
 use crate::chains::list_chains;
 use crate::desk::{desk_with_flow_of, serve};
 use crate::help::{copy_shorter, find_openings, HelpLists};
+use crate::month::{solve_month, Month};
 use crate::opening::{open, Opening};
 use crate::plan::check_plan;
 use crate::reading::read_place;
@@ -47,13 +48,14 @@ pub enum Kind {
     FindOpenings,
     Shorter,
     Reduce,
+    SolveMonth,
 }
 
 /// A call: its numbers and all rows that are lent to it. Numbers that it doesn't have are 0, rows that it doesn't have
 /// are empty. Reading a text is lent the table's rows, to write into. The server's calls have their arcs in the row of the
-/// text, and their result in the row `out`, which is also the row that a solution text is written to.
-/// The filled lengths of two lists stand as the place and the capacity. What was done to a call, by its number, is not
-/// sent.
+/// text, and their result in the row `out`, which is also the row that a solution text is written to. The filled lengths
+/// of two lists stand as the place and the capacity. A month's joined arcs stand in the table's rows, its starts, n, s, t
+/// and stamps in the lists. What was done to a call, by its number, is not sent.
 #[derive(Clone)]
 pub struct Call {
     pub kind: Kind,
@@ -70,6 +72,7 @@ pub struct Call {
     pub out: Vec<u8>,
     pub flow_bytes: Vec<u8>,
     pub lists: [Vec<u32>; LISTS],
+    pub answers: Vec<u64>,
     pub done: u32,
 }
 
@@ -91,6 +94,7 @@ impl Call {
             out: Vec::new(),
             flow_bytes: Vec::new(),
             lists: [const { Vec::new() }; LISTS],
+            answers: Vec::new(),
             done: 0,
         }
     }
@@ -114,6 +118,8 @@ fn rows(call: &Call) -> Vec<(usize, Vec<u8>)> {
     rows.push(of_bytes(&call.out));
     rows.push(of_bytes(&call.flow_bytes));
     rows.extend(call.lists.iter().map(of_numbers));
+    let longs = call.answers.iter().flat_map(|number| number.to_le_bytes());
+    rows.push((call.answers.len(), longs.collect()));
     rows
 }
 
@@ -339,6 +345,33 @@ fn make_reducing(call: &mut Call) -> Numbers {
     numbers_and(answer, &sizes)
 }
 
+/// The month of a call.
+pub fn month_of(call: &Call) -> Month<'_> {
+    let [starts, nodes, sources, sinks, stamps] = &call.lists;
+    Month {
+        starts,
+        nodes,
+        sources,
+        sinks,
+        stamps,
+        tails: &call.table.tails,
+        heads: &call.table.heads,
+        capacities: &call.table.capacities,
+        minimums: &call.table.minimums,
+    }
+}
+
+/// Solves a month: its five numbers.
+fn make_month(call: &mut Call) -> Numbers {
+    let (mut flow, mut side) = (call.flow.clone(), call.side.clone());
+    let (mut work, mut answers) = (call.work.clone(), call.answers.clone());
+    let sums = solve_month(&month_of(call), &mut flow, &mut side, &mut work, &mut answers);
+    (call.flow, call.side, call.work, call.answers) = (flow, side, work, answers);
+    let mut numbers = first(&[sums.refusal, sums.place, sums.solved, 0, sums.day]);
+    numbers[3] = sums.total;
+    numbers
+}
+
 /// Makes the call by the independent program: its numbers; the call's rows are changed as the call changes them.
 fn make(call: &mut Call) -> Numbers {
     match call.kind {
@@ -355,6 +388,7 @@ fn make(call: &mut Call) -> Numbers {
         Kind::FindOpenings => make_finding(call),
         Kind::Shorter => make_shorter(call),
         Kind::Reduce => make_reducing(call),
+        Kind::SolveMonth => make_month(call),
         Kind::ServerSolve => make_server_solving(call),
         Kind::ServerPlace => make_server_reading(call),
     }

@@ -5,6 +5,7 @@ pub mod caller;
 pub mod calls;
 pub mod helps;
 pub mod listings;
+pub mod months;
 pub mod openings;
 pub mod plans;
 pub mod questions;
@@ -316,6 +317,15 @@ pub const REDUCTIONS: Calls = Calls {
     brought: reductions::brought,
     wanted: reductions::wanted,
     enough: 5_000,
+};
+
+/// Solving months.
+pub const MONTHS: Calls = Calls {
+    what: "months",
+    random: months::random_month,
+    brought: months::brought,
+    wanted: months::wanted,
+    enough: 4_000,
 };
 
 /// A caller that runs, its input and output held by us.

@@ -1,0 +1,6 @@
+pub mod Plain
+pub mod Days
+pub mod Month
+pub mod Promises
+pub mod Ready
+pub mod Examples

@@ -1,0 +1,2 @@
+pub mod Summing
+pub mod Counting
