@@ -1,7 +1,6 @@
-// Solving: its verdict; and of a table that it does not refuse the nodes' lists, the run, the value and the side.
+// Solving: the room that it asks for; and of an accepted table with room the nodes' lists, the run, the value and the side.
 use run::Outcome;
 use table::Name;
-use table::Verdict;
 ghost use mathlib.Core.Path.{_≡_};
 ghost use mathlib.Core.List.{_++_};
 ghost use Prim.Native.Nat.{_^_, _≤_, _<_};
@@ -10,7 +9,7 @@ ghost use Rattle.rows.specs.Row.{cleared};
 ghost use Rattle.table.specs.Table.{tableOf};
 ghost use Rattle.table.specs.Accepted.{Accepted};
 ghost use Rattle.arcs.specs.Work.{InWork, workNeed};
-ghost use Rattle.solver.specs.Solving.{left, hasRoom, refusal, answerWith, solved, solvingVerdict};
+ghost use Rattle.solver.specs.Solving.{left, hasRoom, refusal, answerWith, solved};
 ghost use Rattle.solver.specs.Filled.{Filled};
 
 // What solving returns: a refusal's number and place, or 0 with the results.
@@ -74,24 +73,6 @@ pub fn has_room(n: u32, m: usize, flow: usize, side: usize, work: usize) -> bool
         return false;
     }
     work::work_need(n, m) <= work
-}
-
-// The verdict of solving, where flow, side and work rows of these lengths are lent: the first refusal in order, or none.
-pub fn solving_verdict(
-    n: u32,
-    s: u32,
-    t: u32,
-    tails: &[u32],
-    heads: &[u32],
-    capacities: &[u32],
-    flow: usize,
-    side: usize,
-    work: usize,
-) -> Verdict
-    ensures { λ r. ⌜ r ≡ solvingVerdict (tableOf n s t (now (tails .entry)) (now (heads .entry)) (now (capacities .entry))) flow side work ⌝ }
-{
-    let room = has_room(n, capacities.len(), flow, side, work);
-    table::check(n, tails, heads, capacities, s, t, room)
 }
 
 // Solves an accepted table whose lists stand in the work row, and leaves them there. The flow row has just its m places.
