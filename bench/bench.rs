@@ -126,7 +126,7 @@ extern "C" {
 /// Solves by the yardstick: fills the flow row, and gives the three counts.
 #[rustfmt::skip]
 fn solve_yardstick(table: &OwnTable, flow: &mut [u32]) -> [u64; 3] {
-    let OwnTable { n, s, t, tails, heads, capacities, minimums } = table;
+    let OwnTable { n, s, t, tails, heads, capacities, .. } = table;
     let mut counts = [0; 3];
     unsafe {
         yardstick(

@@ -15,10 +15,10 @@ void mark_side(
 static uint32_t tails[ARCS], heads[ARCS], capacities[ARCS], flow[ARCS], work[WORK];
 static uint8_t side[NODES];
 
-/* The seconds of a clock. */
+/* Seconds of this process on a processor, so that other work on the machine does not count. */
 static double now(void) {
     struct timespec t;
-    clock_gettime(CLOCK_MONOTONIC, &t);
+    clock_gettime(CLOCK_PROCESS_CPUTIME_ID, &t);
     return (double)t.tv_sec + (double)t.tv_nsec / 1e9;
 }
 

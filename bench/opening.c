@@ -21,10 +21,10 @@ static uint32_t draw(void) {
     return state >> 8;
 }
 
-/* Microseconds of a clock. */
+/* Microseconds of this process on a processor, so that other work on the machine does not count. */
 static double now(void) {
     struct timespec t;
-    clock_gettime(CLOCK_MONOTONIC, &t);
+    clock_gettime(CLOCK_PROCESS_CPUTIME_ID, &t);
     return (double)t.tv_sec * 1e6 + (double)t.tv_nsec / 1e3;
 }
 

@@ -18,3 +18,14 @@ link_x86_64() {
             "$lib/Scrt1.o" "$lib/crti.o" "$lib/crtbeginS.o" "$program.o" "$@" \
             "$lib/libc.so.6" "$lib/libc_nonshared.a" "$lib/libgcc.a" "$lib/crtendS.o" "$lib/crtn.o"
 }
+
+# static_libraries CRATE..: proves each crate and writes target/staticlib/libCRATE.a, where that was not done for these very sources.
+static_libraries() {
+    local sources crate library
+    sources=$(rt version && find crates crates.txt -type f -print0 | sort -z | xargs -0 sha256sum) || return
+    for crate; do
+        library=target/staticlib/lib$crate.a
+        [ -f "$library" ] && cmp -s - "$library.sources" <<<"$sources" && continue
+        rt staticlib "$crate" && echo "$sources" >"$library.sources" || return
+    done
+}
