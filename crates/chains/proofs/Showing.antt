@@ -22,9 +22,10 @@ use Rattle.solver.specs.declared.Answer.{Answer}
 use Rattle.solver.specs.Solving.{left, refusal, answerWith, solved, solving}
 use Rattle.solver.proofs.Solved.{Roomy, room-roomy, fine-solving, solved-flows, solved-meets}
 use Rattle.pieces.proofs.Whole.{run-chains, run-few, run-short}
-use Rattle.chains.specs.Listing.{Shown, shown, runList, roomVerdict, firstVerdict, listingVerdict, listingAs, listingChecked, listing, Shows}
+use Rattle.chains.specs.Listing.{Shown, shown, runList, roomVerdict, listingVerdict, listingAs, listingChecked, listing, Shows}
+use Rattle.verdicts.specs.Plain.{plainVerdict}
 
-module _ (b : BoundedTable) (stamp : ℕ) (flow side work list : List ℕ) (v : Verdict) (found : v ≡ firstVerdict b (length flow) (length side) (length work)) where
+module _ (b : BoundedTable) (stamp : ℕ) (flow side work list : List ℕ) (v : Verdict) (found : v ≡ plainVerdict b (length flow) (length side) (length work)) where
   -- Where the first checks refuse, listing gives that refusal and leaves the rows.
   pub refused-listing : (name : Name) (place : ℕ) → v ≡ Refused name place → (r : Answer) → r ≡ refusal name place
       → shown (left r flow side work) 0 list ≡ listing b stamp flow side work list
@@ -61,10 +62,10 @@ listed-shows t stamp flow side work list ok =
 
 module _ (b : BoundedTable) (stamp : ℕ) (flow side work list : List ℕ) (l : Shown) (same : l ≡ listing b stamp flow side work list) (none : l .solving .answer .refusal ≡ 0) where
   -- What refuses nothing has passed the checks, and the table is listed.
-  passed : (firstVerdict b (length flow) (length side) (length work) ≡ Fine) × (l ≡ listingAs Fine (b .table) stamp flow side work list)
+  passed : (plainVerdict b (length flow) (length side) (length work) ≡ Fine) × (l ≡ listingAs Fine (b .table) stamp flow side work list)
   unfolding listing listingVerdict listingAs orElse
   passed =
-      let (fine, e) = go (firstVerdict b (length flow) (length side) (length work)) (ltb (length list) (length (runList (b .table)))) (sym (ap (λ (x : Shown). x .solving .answer .refusal) same) ∙ none) in
+      let (fine, e) = go (plainVerdict b (length flow) (length side) (length work)) (ltb (length list) (length (runList (b .table)))) (sym (ap (λ (x : Shown). x .solving .answer .refusal) same) ∙ none) in
       (fine, same ∙ e)
     where
       go : (v : Verdict) (long : Bool)

@@ -14,9 +14,9 @@ use Rattle.table.specs.declared.Verdict.the-variants.{Fine, Refused}
 use Rattle.arcs.specs.Work.{workNeed}
 use Rattle.run.specs.Phase.{run}
 use Rattle.minimums.specs.BoundedTable.{BoundedTable}
-use Rattle.minimums.specs.Checks.{plainCheck}
+use Rattle.verdicts.specs.Plain.{plainVerdict}
 use Rattle.solver.specs.declared.Answer.{Answer}
-use Rattle.solver.specs.Solving.{Left, left, hasRoom, refusal, solved, Meets}
+use Rattle.solver.specs.Solving.{Left, left, refusal, solved, Meets}
 use Rattle.pieces.specs.Chains.{chainsOf, numbers, listOf}
 use Rattle.pieces.specs.Meaning.{Whole}
 use Rattle.chains.specs.declared.Listed.{Listed}
@@ -43,13 +43,9 @@ runList t = numbers (chainsOf t (run t .state .flow))
 abbrev pub roomVerdict : Table → (list : ℕ) → Verdict
 roomVerdict t list = refuseIf (ltb list (length (runList t))) Room 0 Fine
 
--- What the checks find before the table is solved, with rows of these lengths lent: the refusals as for solving, and BOUNDED right after them.
-abbrev pub firstVerdict : BoundedTable → (flow side work : ℕ) → Verdict
-firstVerdict b flow side work = plainCheck b (hasRoom (b .table .nodes) (arcs (b .table)) flow side work)
-
--- The order: these, and last the list's ROOM.
+-- The order: the refusals as for solving, BOUNDED, and last the list's ROOM.
 unfoldable pub listingVerdict : BoundedTable → (flow side work list : ℕ) → Verdict
-listingVerdict b flow side work list = orElse (firstVerdict b flow side work) (roomVerdict (b .table) list)
+listingVerdict b flow side work list = orElse (plainVerdict b flow side work) (roomVerdict (b .table) list)
 
 -- A listed table: solving's rows as solving leaves them, and the list in the first places of its row, later places as they were. A refusal leaves every lent row unchanged.
 unfoldable pub listingAs : Verdict → Table → (stamp : ℕ) → (flow side work list : List ℕ) → Shown

@@ -16,7 +16,7 @@ use Rattle.rows.proofs.Sums.{by-equal, by-test}
 use Rattle.minimums.specs.BoundedTable.{boundedOf}
 use Rattle.solver.specs.declared.Answer.{Answer}
 use Rattle.solver.specs.Solving.{Left}
-use Rattle.days.specs.Plain.{plainSolving}
+use Rattle.verdicts.specs.Plain.{plainSolving}
 use Rattle.tally.specs.declared.Tally.{Tally}
 use Rattle.tally.specs.Sums.{counted, tallied, noTally}
 use Rattle.days.specs.Days.{Days, tables, startOf, arcsOf, marksAt, marksOf, dayTable, nine, Held, held, solvedDay, partLeft, dayLeft, withDay, nextDay, firstDays}

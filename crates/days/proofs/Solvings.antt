@@ -32,7 +32,7 @@ use Rattle.minimums.specs.Checks.{plain, allZero, boundedCheck}
 use Rattle.minimums.proofs.Accepting.{plain-check, plain-accepts}
 use Rattle.solver.specs.declared.Answer.{Answer}
 use Rattle.solver.specs.Solving.{Left, answerWith, refusal, left, solved, solvingAs, solvingVerdict, solving, hasRoom, Meets}
-use Rattle.days.specs.Plain.{plainVerdict, plainSolving}
+use Rattle.verdicts.specs.Plain.{plainVerdict, plainSolving}
 use Rattle.solver.proofs.Solved.{Roomy, room-roomy, solved-meets}
 
 -- What leaves a set of nodes is at most all of it.

@@ -9,7 +9,7 @@ use Rattle.solver.specs.declared.Answer.{Answer}
 use Rattle.solver.specs.Solving.{Left, left}
 use Rattle.tally.specs.declared.Tally.{Tally}
 use Rattle.tally.specs.Sums.{tallied}
-use Rattle.days.specs.Plain.{plainSolving}
+use Rattle.verdicts.specs.Plain.{plainSolving}
 
 -- What the call is given: a row each of starts, n, s, t and stamps by day, and the arcs of all days joined in four rows.
 pub record Days : Type 0 where

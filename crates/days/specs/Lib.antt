@@ -1,4 +1,3 @@
-pub mod Plain
 pub mod Days
 pub mod Month
 pub mod Promises

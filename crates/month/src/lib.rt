@@ -13,7 +13,7 @@ ghost use Rattle.table.specs.Checks.{differ};
 ghost use Rattle.minimums.specs.BoundedTable.{boundedOf};
 ghost use Rattle.solver.specs.Solving.{left};
 ghost use Rattle.tally.specs.Sums.{noTally};
-ghost use Rattle.days.specs.Plain.{plainSolving};
+ghost use Rattle.verdicts.specs.Plain.{plainSolving};
 ghost use Rattle.days.specs.Days.{daysOf, nine, held, nextDay, firstDays, partLeft, dayLeft};
 ghost use Rattle.days.specs.Month.{startsFall, rowsDiffer, hasMonthRoom, verdictOf, monthLeft, monthRefusal, monthSums, month};
 ghost use Rattle.days.specs.Promises.{EachDay};

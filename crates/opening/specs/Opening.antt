@@ -17,9 +17,9 @@ use Rattle.run.specs.Demands.{Best}
 use Rattle.arcs.specs.Work.{workNeed}
 use Rattle.stamps.specs.Stamp.{raised}
 use Rattle.solver.specs.declared.Answer.{Answer}
-use Rattle.solver.specs.Solving.{Left, left, hasRoom, refusal, answerWith}
+use Rattle.solver.specs.Solving.{Left, left, refusal, answerWith}
 use Rattle.minimums.specs.BoundedTable.{BoundedTable}
-use Rattle.minimums.specs.Checks.{plainCheck}
+use Rattle.verdicts.specs.Plain.{plainVerdict}
 use Rattle.shortest.specs.Augment.{settled, GoesOn}
 use Rattle.opening.specs.Maximum.{MaximumFlow, isMaximum}
 
@@ -40,7 +40,7 @@ changeVerdict t place new flow =
 unfoldable pub openingVerdict : BoundedTable → (place capacity : ℕ) → (flow : List ℕ) → (side work : ℕ) → Verdict
 unfolding changeVerdict
 openingVerdict b place capacity flow side work =
-    orElse (plainCheck b (hasRoom (b .table .nodes) (arcs (b .table)) (length flow) side work)) (changeVerdict (b .table) place capacity flow)
+    orElse (plainVerdict b (length flow) side work) (changeVerdict (b .table) place capacity flow)
 
 -- The answer: the raised stamp and the value; D, K and the counts are 0.
 abbrev pub openedAnswer : (stamp value : ℕ) → Answer

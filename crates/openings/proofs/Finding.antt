@@ -23,7 +23,8 @@ use Rattle.solver.proofs.Solved.{Roomy, room-roomy, solved-meets}
 use Rattle.raising.proofs.Raising.{raising-value}
 use Rattle.openings.specs.declared.Openings.{Openings}
 use Rattle.openings.specs.Helping.{flowOf, HelpsExactly}
-use Rattle.openings.specs.Finding.{LeftOpenings, leftOpenings, openingsWith, listsVerdict, tableVerdict, findingVerdict, found, findingAs, finding}
+use Rattle.openings.specs.Finding.{LeftOpenings, leftOpenings, openingsWith, listsVerdict, findingVerdict, found, findingAs, finding}
+use Rattle.verdicts.specs.Plain.{plainVerdict}
 
 -- Document 02's theorem of every accepted table: raising an arc raises the value by one exactly where it is listed.
 pub helps-exactly : (t : Table) → Accepted t → HelpsExactly t
@@ -46,7 +47,7 @@ unfolding solved
 solved-parts t stamp flow side work = refl
 
 module _ (b : BoundedTable) (stamp : ℕ) (flow side work sources sinks places : List ℕ) where
-  module _ (v : Verdict) (checked : v ≡ tableVerdict b (length flow) (length side) (length work)) where
+  module _ (v : Verdict) (checked : v ≡ plainVerdict b (length flow) (length side) (length work)) where
     -- Where the table's checks refuse, the call gives that refusal and leaves the rows.
     pub refused-finding : (name : Name) (place : ℕ) → v ≡ Refused name place → (r : Openings) → r ≡ openingsWith (refusal name place) 0 0 0
         → leftOpenings r flow side work sources sinks places ≡ finding b stamp flow side work sources sinks places

@@ -12,10 +12,10 @@ use Rattle.table.specs.declared.Name.the-variants.{Room}
 use Rattle.table.specs.declared.Verdict.{Verdict}
 use Rattle.table.specs.declared.Verdict.the-variants.{Fine, Refused}
 use Rattle.minimums.specs.BoundedTable.{BoundedTable}
-use Rattle.minimums.specs.Checks.{plainCheck}
+use Rattle.verdicts.specs.Plain.{plainVerdict}
 use Rattle.arcs.specs.Work.{workNeed}
 use Rattle.solver.specs.declared.Answer.{Answer}
-use Rattle.solver.specs.Solving.{hasRoom, refusal, solution, solved}
+use Rattle.solver.specs.Solving.{refusal, solution, solved}
 use Rattle.listing.specs.Passing.{filledWith}
 use Rattle.openings.specs.declared.Openings.{Openings}
 use Rattle.openings.specs.Helping.{nodesIn, placesIn, sourceNodes, sinkNodes, helpingPlaces}
@@ -48,13 +48,9 @@ abbrev pub listsVerdict : Table → (sources sinks places : ℕ) → Verdict
 listsVerdict t sources sinks places =
     refuseIf (not (hasLists (sourceNodes t) (sinkNodes t) (helpingPlaces t) sources sinks places)) Room 0 Fine
 
--- The verdict on a table, of rows of these lengths: as for solving, then BOUNDED.
-abbrev pub tableVerdict : BoundedTable → (flow side work : ℕ) → Verdict
-tableVerdict b flow side work = plainCheck b (hasRoom (b .table .nodes) (arcs (b .table)) flow side work)
-
--- What the checks find: that, then the lists' ROOM.
+-- What the checks find: as for solving, then BOUNDED, then the lists' ROOM.
 abbrev pub findingVerdict : BoundedTable → (flow side work sources sinks places : ℕ) → Verdict
-findingVerdict b flow side work sources sinks places = orElse (tableVerdict b flow side work) (listsVerdict (b .table) sources sinks places)
+findingVerdict b flow side work sources sinks places = orElse (plainVerdict b flow side work) (listsVerdict (b .table) sources sinks places)
 
 -- The solved table's rows, and the three lists in the first places of theirs.
 unfoldable pub found : Table → (stamp : ℕ) → (flow side work sources sinks places : List ℕ) → LeftOpenings

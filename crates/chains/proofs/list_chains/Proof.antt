@@ -1,6 +1,7 @@
 -- `list_chains` meets its contract: the checks in their order, then the accepted table and the list's ROOM. What it shows follows from the equation.
 use Rattle.chains.proofs.Showing.{refused-listing, fine-listing, fine-accepted, fine-roomy, listing-shows}
-use Rattle.chains.specs.Listing.{Shown, firstVerdict, listing, Shows}
+use Rattle.chains.specs.Listing.{Shown, listing, Shows}
+use Rattle.verdicts.specs.Plain.{plainVerdict}
 use Rattle.minimums.specs.BoundedTable.{BoundedTable, boundedOf}
 use Rattle.minimums.specs.Checks.{plainCheck}
 use denote.Ref.{now}
@@ -18,7 +19,7 @@ module _ (c : tie.After-plain-check) where
   abbrev bounded : BoundedTable
   bounded = boundedOf (begun .args .n) (begun .args .s) (begun .args .t) (now (begun .args .tails)) (now (begun .args .heads)) (now (begun .args .capacities)) (now (begun .args .minimums))
 
-  found : c .plain-check .result ≡ firstVerdict bounded (length (now (begun .args .flow))) (length (now (begun .args .side))) (length (now (begun .args .work)))
+  found : c .plain-check .result ≡ plainVerdict bounded (length (now (begun .args .flow))) (length (now (begun .args .side))) (length (now (begun .args .work)))
   found = c .plain-check .ensures ∙ ap (plainCheck bounded) (c .before .has-room .ensures)
 
   -- The equation gives the whole promise.

@@ -3,7 +3,7 @@ use mathlib.Core.Path.{_≡_, sym, ap, _∙_}
 use lib.ListN.{length}
 use Rattle.minimums.specs.BoundedTable.{BoundedTable, boundedOf}
 use Rattle.minimums.specs.Checks.{plainCheck}
-use Rattle.days.specs.Plain.{plainVerdict}
+use Rattle.verdicts.specs.Plain.{plainVerdict}
 use Rattle.solver.proofs.Solved.{Roomy}
 use Rattle.days.proofs.Solvings.{plain-accepted, plain-roomy, refused-plain, fine-plain}
 use borrow.Author.Needs.{needs}

@@ -5,7 +5,8 @@ use Rattle.minimums.specs.BoundedTable.{BoundedTable, boundedOf}
 use Rattle.minimums.specs.Checks.{plainCheck}
 use Rattle.solver.specs.Solving.{left, Meets}
 use Rattle.openings.specs.Helping.{HelpsExactly}
-use Rattle.openings.specs.Finding.{LeftOpenings, tableVerdict, finding}
+use Rattle.openings.specs.Finding.{LeftOpenings, finding}
+use Rattle.verdicts.specs.Plain.{plainVerdict}
 use Rattle.openings.proofs.Finding.{refused-finding, fine-finding, fine-accepted, fine-roomy, finding-best}
 use borrow.Author.Needs.{needs}
 use Rattle.openings.proofs.find_openings.Statement.{statement}
@@ -21,7 +22,7 @@ module _ (c : tie.After-plain-check) where
       boundedOf (begun .args .n) (begun .args .s) (begun .args .t) (begun .args .tails .now) (begun .args .heads .now) (begun .args .capacities .now)
       (begun .args .minimums .now)
 
-  checked : c .plain-check .result ≡ tableVerdict bounded (length (begun .args .flow .now)) (length (begun .args .side .now)) (length (begun .args .work .now))
+  checked : c .plain-check .result ≡ plainVerdict bounded (length (begun .args .flow .now)) (length (begun .args .side .now)) (length (begun .args .work .now))
   checked = c .plain-check .ensures ∙ ap (plainCheck bounded) (c .before .has-room .ensures)
 
   -- What the call answers.

@@ -8,7 +8,7 @@ use Rattle.minimums.specs.BoundedTable.{BoundedTable}
 use Rattle.minimums.specs.Checks.{plainCheck}
 use Rattle.solver.specs.Solving.{Left, hasRoom, solvingAs}
 
--- Its verdict: the checks with the ROOM of flow, side and work rows of these lengths.
+-- Its verdict: the refusals as for solving, with the ROOM of flow, side and work rows of these lengths, and BOUNDED right after them.
 abbrev pub plainVerdict : BoundedTable → (flow side work : ℕ) → Verdict
 plainVerdict b flow side work = plainCheck b (hasRoom (b .table .nodes) (arcs (b .table)) flow side work)
 
