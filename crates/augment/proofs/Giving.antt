@@ -2,6 +2,7 @@
 use Prim.Native.Nat.{ℕ, _+_, _<_}
 use mathlib.Core.Path.{_≡_, sym, subst, _∙_}
 use mathlib.Core.List.{List, _++_, append-nil}
+use native.Mathlib.Omega.{arith}
 use lib.ListN.{length, getD, set, drop, replicate}
 use lib.Seq.{drop-length}
 use lib.Dec.{ltb}
@@ -32,6 +33,16 @@ pub ends-within : {tails heads capacities minimums flow : List ℕ} {n m : ℕ} 
     → Node m (getD tails k 0) × Node m (getD heads k 0)
 ends-within {tails} {heads} k rows e h =
     (subst (λ l. Node l (getD tails k 0)) (sym e) (rows-ends rows .tail-within k h), subst (λ l. Node l (getD heads k 0)) (sym e) (rows-ends rows .head-within k h))
+
+-- A place of the rows is one of each of them.
+pub place-within : {tails heads capacities minimums flow : List ℕ} {n k : ℕ} → Rows n tails heads capacities minimums flow → k < length capacities
+    → (k < length tails) × (k < length heads) × (k < length minimums) × (k < length flow)
+place-within rows l = (
+  omega (arith, rows .arcs .capacities-long),
+  omega (arith, rows .arcs .capacities-long, rows .arcs .ends .heads-long),
+  omega (arith, rows .minimums-long),
+  omega (arith, rows .flow-long),
+)
 
 -- The same rows, of a row that has kept its length.
 pub rows-kept : {tails heads capacities minimums flow : List ℕ} {n m : ℕ} → Rows n tails heads capacities minimums flow → m ≡ n → Rows m tails heads capacities minimums flow

@@ -461,18 +461,20 @@ module _ (w : Ways) (n t : ℕ) (ends : Ends n w) (ht : Node n t) where
   measured {at} {f} all g =
       only-distances w n t ends ht (f .dist)
       (record {
-        long = g .long;
-        at-most = g .at-most;
-        at-sink = g .at-sink;
-        only-sink = g .only-sink;
-        valid = λ k i j lead.
-            let (hi, hj) = leads-within w n k i j ends lead in
-            let most = g .at-most i hi in
-            by-equal (atNode (f .dist) j) n
-            (λ e. omega arith)
-            (λ ne.
-            let (p, b, is) = g .noted j hj (below j hj ne) in
-            omega (arith, ap (atNode (f .dist)) is, g .done p (omega arith) b k i (subst (Leads w k i) (sym is) lead)));
+        labels = record {
+          long = g .long;
+          at-most = g .at-most;
+          at-sink = g .at-sink;
+          only-sink = g .only-sink;
+          valid = λ k i j lead.
+              let (hi, hj) = leads-within w n k i j ends lead in
+              let most = g .at-most i hi in
+              by-equal (atNode (f .dist) j) n
+              (λ e. omega arith)
+              (λ ne.
+              let (p, b, is) = g .noted j hj (below j hj ne) in
+              omega (arith, ap (atNode (f .dist)) is, g .done p (omega arith) b k i (subst (Leads w k i) (sym is) lead)));
+        };
         descends = g .descends;
       })
     where

@@ -1,17 +1,17 @@
 // Going on from a flow along chains of fewest residual arcs, each filled by its least residual, until the sink can't be reached.
 ghost use Prim.Native.Nat.{_+_, _-_, _≤_, _<_, min};
 ghost use mathlib.Core.Path.{_≡_};
-ghost use mathlib.Core.Bool.{true, cond};
-ghost use lib.ListN.{length, getD, set, take, replicate};
+ghost use mathlib.Core.Bool.{cond};
+ghost use lib.ListN.{length, getD, set, replicate};
 ghost use lib.Dec.{eqb};
 ghost use Rattle.rows.specs.Row.{atNode, Node};
 ghost use Rattle.arcs.specs.Residual.{Places};
 ghost use Rattle.arcs.specs.Work.{InWork};
 ghost use Rattle.shortest.specs.Ways.{otherEnd};
-ghost use Rattle.shortest.specs.Distance.{leadsBy, distances, next, chainFrom};
+ghost use Rattle.shortest.specs.Distance.{leadsBy, leadsTo, distances, next, NoneLower};
 ghost use Rattle.augment.specs.Visits.{ListOf, mayInto, front, giveOf, lookTo, Open};
-ghost use Rattle.shortest.specs.Chain.{Chain};
-ghost use Rattle.shortest.specs.Augment.{boundNetwork, leastResidual, filled, Fits, reaches, chainIn, augmented, settled};
+ghost use Rattle.augment.specs.Walks.{Known, Walked, Found};
+ghost use Rattle.shortest.specs.Augment.{boundNetwork, filled, Fits, settled};
 ghost use Rattle.shortest.specs.Rows.{rowWays, endsOf, Rows, Ready, Extended};
 
 // Gives node i the distance d and notes it to be visited, where the way from it is open and it has no distance yet; answers how many are noted.
@@ -183,6 +183,33 @@ fn leads(dist: &[u32], d: u32, i: u32, tail: u32, head: u32, fore: bool, back: b
     dist[(tail - 1) as usize] == d
 }
 
+// Whether the arc at place k may be walked from node i to a node at distance d.
+fn leads_at(
+    tails: &[u32],
+    heads: &[u32],
+    capacities: &[u32],
+    minimums: &[u32],
+    flow: &[u32],
+    dist: &[u32],
+    d: u32,
+    i: u32,
+    k: usize,
+) -> bool
+    requires { ⌜ Rows (length (now dist)) (now tails) (now heads) (now capacities) (now minimums) (now flow) × (k < length (now capacities)) ⌝ }
+    ensures { λ r. ⌜ r ≡ leadsTo (rowWays (now (tails .entry)) (now (heads .entry)) (now (capacities .entry)) (now (minimums .entry)) (now (flow .entry))) (now (dist .entry)) d i k ⌝ }
+{
+    let f = flow[k];
+    leads(
+        dist,
+        d,
+        i,
+        tails[k],
+        heads[k],
+        f < capacities[k],
+        minimums[k] < f,
+    )
+}
+
 // The lowest place that leads from node i to distance d, by node i's list, or the number of places.
 fn next_place(
     tails: &[u32],
@@ -202,21 +229,46 @@ fn next_place(
     let mut p = 0;
     while p < list.len() {
         let k = list[p] as usize;
-        let f = flow[k];
-        if leads(
-            dist,
-            d,
-            i,
-            tails[k],
-            heads[k],
-            f < capacities[k],
-            minimums[k] < f,
-        ) {
+        if leads_at(tails, heads, capacities, minimums, flow, dist, d, i, k) {
             return k;
         }
         p += 1;
     }
     capacities.len()
+}
+
+// The lowest place that leads from node i to distance d, or the number of places: the one noted for node i where it leads there still, else by node i's list, and then noted.
+fn leave_by(
+    tails: &[u32],
+    heads: &[u32],
+    capacities: &[u32],
+    minimums: &[u32],
+    flow: &[u32],
+    work: &[u32],
+    dist: &[u32],
+    n: u32,
+    d: u32,
+    i: u32,
+    lowest: &mut [u32],
+) -> usize
+    requires { ⌜ Rows n (now tails) (now heads) (now capacities) (now minimums) (now flow) ⌝ }
+    requires { ⌜ InWork (endsOf n (now tails) (now heads) (now capacities)) (now work) ⌝ }
+    requires { ⌜ (length (now dist) ≡ n) × (length (now lowest) ≡ n) × Node n i × (atNode (now dist) i ≡ d + 1) ⌝ }
+    requires { ⌜ NoneLower (rowWays (now tails) (now heads) (now capacities) (now minimums) (now flow)) n (now dist) (now lowest) ⌝ }
+    ensures place { λ r. ⌜ r ≡ next (rowWays (now (tails .entry)) (now (heads .entry)) (now (capacities .entry)) (now (minimums .entry)) (now (flow .entry))) (now (dist .entry)) d i ⌝ }
+    ensures noted { λ _. ⌜ NoneLower (rowWays (now (tails .entry)) (now (heads .entry)) (now (capacities .entry)) (now (minimums .entry)) (now (flow .entry))) n (now (dist .entry)) (now (lowest .exit)) ⌝ }
+{
+    let at = (i - 1) as usize;
+    let noted = lowest[at] as usize;
+    if noted < capacities.len() {
+        if leads_at(tails, heads, capacities, minimums, flow, dist, d, i, noted) {
+            return noted;
+        }
+    }
+    let list = arcs::node_list(work, n, capacities.len(), i);
+    let k = next_place(tails, heads, capacities, minimums, flow, list, dist, d, i);
+    lowest[at] = k as u32;
+    k
 }
 
 // The end of an arc that is not i.
@@ -227,42 +279,6 @@ fn far_of(i: u32, tail: u32, head: u32) -> u32
         return head;
     }
     tail
-}
-
-// The chain from node s, at each node by the lowest place that leads one nearer, into the first places of `chain`; how many they are.
-fn walk(
-    tails: &[u32],
-    heads: &[u32],
-    capacities: &[u32],
-    minimums: &[u32],
-    flow: &[u32],
-    work: &[u32],
-    dist: &[u32],
-    n: u32,
-    s: u32,
-    t: u32,
-    chain: &mut [u32],
-) -> usize
-    requires { ⌜ Rows (length (now dist)) (now tails) (now heads) (now capacities) (now minimums) (now flow) ⌝ }
-    requires { ⌜ InWork (endsOf n (now tails) (now heads) (now capacities)) (now work) × (length (now dist) ≡ n) ⌝ }
-    requires { ⌜ Node (length (now dist)) s × Node (length (now dist)) t ⌝ }
-    requires { ⌜ now dist ≡ distances (rowWays (now tails) (now heads) (now capacities) (now minimums) (now flow)) (length (now dist)) t ⌝ }
-    requires { ⌜ atNode (now dist) s < length (now dist) ⌝ }
-    requires { ⌜ atNode (now dist) s ≤ length (now chain) ⌝ }
-    ensures { λ r. ⌜ (r ≡ atNode (now (dist .entry)) s) × (take r (now (chain .exit)) ≡ chainFrom (rowWays (now (tails .entry)) (now (heads .entry)) (now (capacities .entry)) (now (minimums .entry)) (now (flow .entry))) (now (dist .entry)) (atNode (now (dist .entry)) s) s) ⌝ }
-{
-    let mut i = s;
-    let mut d = dist[(s - 1) as usize];
-    let mut p = 0;
-    while 0 < d {
-        d -= 1;
-        let list = arcs::node_list(work, n, capacities.len(), i);
-        let k = next_place(tails, heads, capacities, minimums, flow, list, dist, d, i);
-        chain[p] = k as u32;
-        i = far_of(i, tails[k], heads[k]);
-        p += 1;
-    }
-    p
 }
 
 // The residual of the arc at place k away from node i.
@@ -303,28 +319,50 @@ pub fn lesser(a: u32, b: u32) -> u32
     b
 }
 
-// The least residual of the chain's arcs from node s on.
-fn least_residual(
+// The chain from the source by the labels, at each node by the lowest place that leads one nearer, into the first places of `chain`; its least residual, or 0 where it does not arrive.
+fn walk(
     tails: &[u32],
     heads: &[u32],
     capacities: &[u32],
     minimums: &[u32],
-    flow: &[u32],
-    chain: &[u32],
     n: u32,
     s: u32,
     t: u32,
+    flow: &[u32],
+    work: &[u32],
+    dist: &[u32],
+    lowest: &mut [u32],
+    chain: &mut [u32],
 ) -> u32
     requires { ⌜ Ready n s t (now tails) (now heads) (now capacities) (now minimums) (now flow) ⌝ }
-    requires { ⌜ Chain (rowWays (now tails) (now heads) (now capacities) (now minimums) (now flow)) t s (now chain) ⌝ }
-    requires { ⌜ 0 < length (now chain) ⌝ }
-    ensures { λ r. ⌜ r ≡ leastResidual (boundNetwork n s t (now (tails .entry)) (now (heads .entry)) (now (capacities .entry)) (now (minimums .entry))) (now (flow .entry)) s (now (chain .entry)) ⌝ }
+    requires { ⌜ InWork (endsOf n (now tails) (now heads) (now capacities)) (now work) ⌝ }
+    requires { ⌜ (length (now lowest) ≡ n) × (n ≤ length (now chain)) ⌝ }
+    requires { ⌜ Known (rowWays (now tails) (now heads) (now capacities) (now minimums) (now flow)) n t (now dist) (now lowest) ⌝ }
+    ensures { λ r. ⌜ Walked (boundNetwork n s t (now (tails .entry)) (now (heads .entry)) (now (capacities .entry)) (now (minimums .entry))) (now (flow .entry)) (now (dist .entry)) (now (lowest .exit)) (now (chain .exit)) r ⌝ }
 {
-    let mut least = residual_at(tails, capacities, minimums, flow, s, chain[0] as usize);
     let mut i = s;
+    let mut d = dist[(s - 1) as usize];
+    let mut least = 4294967295u32;
     let mut p = 0;
-    while p < chain.len() {
-        let k = chain[p] as usize;
+    while 0 < d {
+        d -= 1;
+        let k = leave_by(
+            tails,
+            heads,
+            capacities,
+            minimums,
+            flow,
+            work,
+            dist,
+            n,
+            d,
+            i,
+            lowest,
+        );
+        if capacities.len() <= k {
+            return 0;
+        }
+        chain[p] = k as u32;
         least = lesser(least, residual_at(tails, capacities, minimums, flow, i, k));
         i = far_at(tails, heads, i, k);
         p += 1;
@@ -374,8 +412,44 @@ fn fill(
     }
 }
 
-// Fills the chain by its least residual.
-fn pour(
+// Measures the distances anew, and forgets the places noted for the nodes.
+fn measure_anew(
+    tails: &[u32],
+    heads: &[u32],
+    capacities: &[u32],
+    minimums: &[u32],
+    flow: &[u32],
+    work: &[u32],
+    t: u32,
+    n: u32,
+    todo: &mut [u32],
+    dist: &mut [u32],
+    lowest: &mut [u32],
+)
+    requires { ⌜ Rows n (now tails) (now heads) (now capacities) (now minimums) (now flow) ⌝ }
+    requires { ⌜ InWork (endsOf n (now tails) (now heads) (now capacities)) (now work) ⌝ }
+    requires { ⌜ Node n t × (length (now dist) ≡ n) × (length (now lowest) ≡ n) × (n ≤ length (now todo)) ⌝ }
+    ensures labels { λ _. ⌜ now (dist .exit) ≡ distances (rowWays (now (tails .entry)) (now (heads .entry)) (now (capacities .entry)) (now (minimums .entry)) (now (flow .entry))) n t ⌝ }
+    ensures known { λ _. ⌜ Known (rowWays (now (tails .entry)) (now (heads .entry)) (now (capacities .entry)) (now (minimums .entry)) (now (flow .entry))) n t (now (dist .exit)) (now (lowest .exit)) ⌝ }
+{
+    measure(
+        tails,
+        heads,
+        capacities,
+        minimums,
+        flow,
+        work,
+        t,
+        n,
+        todo,
+        dist,
+    );
+    reset(lowest, 0);
+}
+
+// Finds the chain to fill, the first of those of fewest residual arcs by its places: its least residual, or 0 where there is none. Its places stand first in `chain`, as many as the source's label.
+// Labels that lead nowhere are measured anew; the chain's row serves the measuring before.
+fn find(
     tails: &[u32],
     heads: &[u32],
     capacities: &[u32],
@@ -383,19 +457,65 @@ fn pour(
     n: u32,
     s: u32,
     t: u32,
-    flow: &mut [u32],
-    chain: &[u32],
-)
+    flow: &[u32],
+    work: &[u32],
+    dist: &mut [u32],
+    lowest: &mut [u32],
+    chain: &mut [u32],
+) -> u32
     requires { ⌜ Ready n s t (now tails) (now heads) (now capacities) (now minimums) (now flow) ⌝ }
-    requires { ⌜ reaches (boundNetwork n s t (now tails) (now heads) (now capacities) (now minimums)) (now flow) ≡ true ⌝ }
-    requires { ⌜ now chain ≡ chainIn (boundNetwork n s t (now tails) (now heads) (now capacities) (now minimums)) (now flow) ⌝ }
-    ensures { λ _. ⌜ now (flow .exit) ≡ augmented (boundNetwork n s t (now (tails .entry)) (now (heads .entry)) (now (capacities .entry)) (now (minimums .entry))) (now (flow .entry)) ⌝ }
+    requires { ⌜ InWork (endsOf n (now tails) (now heads) (now capacities)) (now work) ⌝ }
+    requires { ⌜ (length (now lowest) ≡ n) × (n ≤ length (now chain)) ⌝ }
+    requires { ⌜ Known (rowWays (now tails) (now heads) (now capacities) (now minimums) (now flow)) n t (now dist) (now lowest) ⌝ }
+    ensures { λ r. ⌜ Found (boundNetwork n s t (now (tails .entry)) (now (heads .entry)) (now (capacities .entry)) (now (minimums .entry))) (now (flow .entry)) (now (dist .exit)) (now (lowest .exit)) (now (chain .exit)) r ⌝ }
 {
-    let d = least_residual(tails, heads, capacities, minimums, flow, chain, n, s, t);
-    fill(tails, heads, capacities, minimums, flow, chain, n, s, t, d);
+    let least = walk(
+        tails,
+        heads,
+        capacities,
+        minimums,
+        n,
+        s,
+        t,
+        flow,
+        work,
+        dist,
+        lowest,
+        chain,
+    );
+    if 0 < least {
+        return least;
+    }
+    measure_anew(
+        tails,
+        heads,
+        capacities,
+        minimums,
+        flow,
+        work,
+        t,
+        n,
+        chain,
+        dist,
+        lowest,
+    );
+    walk(
+        tails,
+        heads,
+        capacities,
+        minimums,
+        n,
+        s,
+        t,
+        flow,
+        work,
+        dist,
+        lowest,
+        chain,
+    )
 }
 
-// Fills one chain of fewest residual arcs, the first of them by its places, by its least residual; says whether there was one. The chain's row serves the measuring before.
+// Fills one chain of fewest residual arcs, the first of them by its places, by its least residual; says whether there was one.
 fn extend(
     tails: &[u32],
     heads: &[u32],
@@ -407,57 +527,50 @@ fn extend(
     flow: &mut [u32],
     work: &[u32],
     dist: &mut [u32],
+    lowest: &mut [u32],
     chain: &mut [u32],
 ) -> bool
     requires { ⌜ Ready n s t (now tails) (now heads) (now capacities) (now minimums) (now flow) ⌝ }
     requires { ⌜ InWork (endsOf n (now tails) (now heads) (now capacities)) (now work) ⌝ }
-    requires { ⌜ length (now dist) ≡ n ⌝ }
-    requires { ⌜ n ≤ length (now chain) ⌝ }
-    ensures { λ r. ⌜ Extended (boundNetwork n s t (now (tails .entry)) (now (heads .entry)) (now (capacities .entry)) (now (minimums .entry))) (now (flow .entry)) (now (flow .exit)) r ⌝ }
+    requires { ⌜ (length (now lowest) ≡ n) × (n ≤ length (now chain)) ⌝ }
+    requires { ⌜ Known (rowWays (now tails) (now heads) (now capacities) (now minimums) (now flow)) n t (now dist) (now lowest) ⌝ }
+    ensures row { λ r. ⌜ Extended (boundNetwork n s t (now (tails .entry)) (now (heads .entry)) (now (capacities .entry)) (now (minimums .entry))) (now (flow .entry)) (now (flow .exit)) r ⌝ }
+    ensures known { λ _. ⌜ Known (rowWays (now (tails .entry)) (now (heads .entry)) (now (capacities .entry)) (now (minimums .entry)) (now (flow .exit))) n t (now (dist .exit)) (now (lowest .exit)) ⌝ }
 {
-    measure(
+    let least = find(
         tails,
         heads,
         capacities,
         minimums,
+        n,
+        s,
+        t,
         flow,
         work,
-        t,
-        n,
-        chain,
         dist,
+        lowest,
+        chain,
     );
-    if n <= dist[(s - 1) as usize] {
+    if least == 0 {
         return false;
     }
-    let count = walk(
+    let count = dist[(s - 1) as usize] as usize;
+    fill(
         tails,
         heads,
         capacities,
         minimums,
-        flow,
-        work,
-        dist,
-        n,
-        s,
-        t,
-        chain,
-    );
-    pour(
-        tails,
-        heads,
-        capacities,
-        minimums,
-        n,
-        s,
-        t,
         flow,
         &chain[..count],
+        n,
+        s,
+        t,
+        least,
     );
     true
 }
 
-// Fills chains until the sink can't be reached, with a row of n distances and one for a chain.
+// Fills chains until the sink can't be reached, with a row of n labels, one of n places and one for a chain.
 fn go_on_with(
     n: u32,
     s: u32,
@@ -469,14 +582,27 @@ fn go_on_with(
     flow: &mut [u32],
     work: &[u32],
     dist: &mut [u32],
+    lowest: &mut [u32],
     chain: &mut [u32],
 )
     requires { ⌜ Ready n s t (now tails) (now heads) (now capacities) (now minimums) (now flow) ⌝ }
     requires { ⌜ InWork (endsOf n (now tails) (now heads) (now capacities)) (now work) ⌝ }
-    requires { ⌜ length (now dist) ≡ n ⌝ }
-    requires { ⌜ n ≤ length (now chain) ⌝ }
+    requires { ⌜ (length (now dist) ≡ n) × (length (now lowest) ≡ n) × (n ≤ length (now chain)) ⌝ }
     ensures { λ _. ⌜ now (flow .exit) ≡ settled (boundNetwork n s t (now (tails .entry)) (now (heads .entry)) (now (capacities .entry)) (now (minimums .entry))) (now (flow .entry)) ⌝ }
 {
+    measure_anew(
+        tails,
+        heads,
+        capacities,
+        minimums,
+        flow,
+        work,
+        t,
+        n,
+        chain,
+        dist,
+        lowest,
+    );
     while extend(
         tails,
         heads,
@@ -488,6 +614,7 @@ fn go_on_with(
         flow,
         work,
         dist,
+        lowest,
         chain,
     ) {}
 }
@@ -509,6 +636,7 @@ pub fn go_on(
     ensures { λ _. ⌜ now (flow .exit) ≡ settled (boundNetwork n s t (now (tails .entry)) (now (heads .entry)) (now (capacities .entry)) (now (minimums .entry))) (now (flow .entry)) ⌝ }
 {
     let mut dist = [0u32; 514];
+    let mut lowest = [0u32; 514];
     let mut chain = [0u32; 514];
     let nodes = n as usize;
     go_on_with(
@@ -522,6 +650,7 @@ pub fn go_on(
         flow,
         work,
         &mut dist[..nodes],
+        &mut lowest[..nodes],
         &mut chain,
     )
 }
