@@ -4,6 +4,7 @@ ghost use mathlib.Core.Path.{_≡_};
 ghost use mathlib.Core.Bool.{cond};
 ghost use lib.ListN.{length, getD, set, replicate};
 ghost use lib.Dec.{eqb};
+ghost use Rattle.rows.specs.Lent.{before, after};
 ghost use Rattle.rows.specs.Row.{atNode, Node};
 ghost use Rattle.arcs.specs.Residual.{Places};
 ghost use Rattle.arcs.specs.Work.{InWork};
@@ -11,8 +12,8 @@ ghost use Rattle.shortest.specs.Ways.{otherEnd};
 ghost use Rattle.shortest.specs.Distance.{leadsBy, leadsTo, distances, next, NoneLower};
 ghost use Rattle.augment.specs.Visits.{ListOf, mayInto, front, giveOf, lookTo, Open};
 ghost use Rattle.augment.specs.Walks.{Known, Walked, Found};
-ghost use Rattle.shortest.specs.Augment.{boundNetwork, filled, Fits, settled};
-ghost use Rattle.shortest.specs.Rows.{rowWays, endsOf, Rows, Ready, Extended};
+ghost use Rattle.shortest.specs.Augment.{filled, Fits, settled};
+ghost use Rattle.shortest.specs.Rows.{rowWays, givenWays, lentWays, givenNetwork, lentNetwork, endsOf, Rows, Ready, Extended};
 
 // Gives node i the distance d and notes it to be visited, where the way from it is open and it has no distance yet; answers how many are noted.
 fn give(
@@ -25,7 +26,7 @@ fn give(
     dist: &mut [u32],
 ) -> usize
     requires { ⌜ Node (length (now dist)) i × Open none d (front (now dist) (now todo) count) ⌝ }
-    ensures { λ r. ⌜ front (now (dist .exit)) (now (todo .exit)) r ≡ giveOf none d may i (front (now (dist .entry)) (now (todo .entry)) count) ⌝ }
+    ensures { λ r. ⌜ front (after dist) (after todo) r ≡ giveOf none d may i (front (before dist) (before todo) count) ⌝ }
 {
     if !may {
         return count;
@@ -56,7 +57,8 @@ fn look(
 ) -> usize
     requires { ⌜ Rows none (now tails) (now heads) (now capacities) (now minimums) (now flow) × (length (now dist) ≡ none) × (k < length (now capacities)) ⌝ }
     requires { ⌜ Open none d (front (now dist) (now todo) count) ⌝ }
-    ensures { λ r. ⌜ front (now (dist .exit)) (now (todo .exit)) r ≡ giveOf none d (mayInto (rowWays (now (tails .entry)) (now (heads .entry)) (now (capacities .entry)) (now (minimums .entry)) (now (flow .entry))) j k) (otherEnd (rowWays (now (tails .entry)) (now (heads .entry)) (now (capacities .entry)) (now (minimums .entry)) (now (flow .entry))) j k) (front (now (dist .entry)) (now (todo .entry)) count) ⌝ }
+    ensures { λ r. ⌜ (let ways = lentWays tails heads capacities minimums flow in
+        front (after dist) (after todo) r ≡ giveOf none d (mayInto ways j k) (otherEnd ways j k) (front (before dist) (before todo) count)) ⌝ }
 {
     let at = k as usize;
     let f = flow[at];
@@ -84,7 +86,8 @@ fn visit(
 ) -> usize
     requires { ⌜ Rows none (now tails) (now heads) (now capacities) (now minimums) (now flow) × (length (now dist) ≡ none) ⌝ }
     requires { ⌜ Places (length (now capacities)) (now list) × Open none d (front (now dist) (now todo) count) ⌝ }
-    ensures { λ r. ⌜ front (now (dist .exit)) (now (todo .exit)) r ≡ lookTo (rowWays (now (tails .entry)) (now (heads .entry)) (now (capacities .entry)) (now (minimums .entry)) (now (flow .entry))) none d j (now (list .entry)) (length (now (list .entry))) (front (now (dist .entry)) (now (todo .entry)) count) ⌝ }
+    ensures { λ r. ⌜ (let ways = lentWays tails heads capacities minimums flow in
+        front (after dist) (after todo) r ≡ lookTo ways none d j (before list) (length (before list)) (front (before dist) (before todo) count)) ⌝ }
 {
     let mut noted = count;
     let mut p = 0;
@@ -110,7 +113,7 @@ fn visit(
 
 // No node has a distance.
 fn reset(dist: &mut [u32], none: u32)
-    ensures { λ _. ⌜ now (dist .exit) ≡ replicate (length (now (dist .entry))) none ⌝ }
+    ensures { λ _. ⌜ after dist ≡ replicate (length (before dist)) none ⌝ }
 {
     let mut i = 0;
     while i < dist.len() {
@@ -135,7 +138,7 @@ fn measure(
     requires { ⌜ Rows none (now tails) (now heads) (now capacities) (now minimums) (now flow) ⌝ }
     requires { ⌜ InWork (endsOf none (now tails) (now heads) (now capacities)) (now work) ⌝ }
     requires { ⌜ Node none t × (length (now dist) ≡ none) × (none ≤ length (now todo)) ⌝ }
-    ensures { λ _. ⌜ now (dist .exit) ≡ distances (rowWays (now (tails .entry)) (now (heads .entry)) (now (capacities .entry)) (now (minimums .entry)) (now (flow .entry))) none t ⌝ }
+    ensures { λ _. ⌜ after dist ≡ distances (lentWays tails heads capacities minimums flow) none t ⌝ }
 {
     reset(dist, none);
     dist[(t - 1) as usize] = 0;
@@ -166,7 +169,7 @@ fn measure(
 // Whether the arc may be walked from node i to a node at distance d.
 fn leads(dist: &[u32], d: u32, i: u32, tail: u32, head: u32, fore: bool, back: bool) -> bool
     requires { ⌜ Node (length (now dist)) tail × Node (length (now dist)) head ⌝ }
-    ensures { λ r. ⌜ r ≡ leadsBy tail head i fore back (eqb (atNode (now (dist .entry)) head) d) (eqb (atNode (now (dist .entry)) tail) d) ⌝ }
+    ensures { λ r. ⌜ r ≡ leadsBy tail head i fore back (eqb (atNode (before dist) head) d) (eqb (atNode (before dist) tail) d) ⌝ }
 {
     if tail == i {
         if !fore {
@@ -196,7 +199,7 @@ fn leads_at(
     k: usize,
 ) -> bool
     requires { ⌜ Rows (length (now dist)) (now tails) (now heads) (now capacities) (now minimums) (now flow) × (k < length (now capacities)) ⌝ }
-    ensures { λ r. ⌜ r ≡ leadsTo (rowWays (now (tails .entry)) (now (heads .entry)) (now (capacities .entry)) (now (minimums .entry)) (now (flow .entry))) (now (dist .entry)) d i k ⌝ }
+    ensures { λ r. ⌜ r ≡ leadsTo (lentWays tails heads capacities minimums flow) (before dist) d i k ⌝ }
 {
     let f = flow[k];
     leads(
@@ -223,8 +226,8 @@ fn next_place(
     i: u32,
 ) -> usize
     requires { ⌜ Rows (length (now dist)) (now tails) (now heads) (now capacities) (now minimums) (now flow) ⌝ }
-    requires { ⌜ ListOf (rowWays (now tails) (now heads) (now capacities) (now minimums) (now flow)) i (now list) ⌝ }
-    ensures { λ r. ⌜ r ≡ next (rowWays (now (tails .entry)) (now (heads .entry)) (now (capacities .entry)) (now (minimums .entry)) (now (flow .entry))) (now (dist .entry)) d i ⌝ }
+    requires { ⌜ ListOf (givenWays tails heads capacities minimums flow) i (now list) ⌝ }
+    ensures { λ r. ⌜ r ≡ next (lentWays tails heads capacities minimums flow) (before dist) d i ⌝ }
 {
     let mut p = 0;
     while p < list.len() {
@@ -254,9 +257,9 @@ fn leave_by(
     requires { ⌜ Rows n (now tails) (now heads) (now capacities) (now minimums) (now flow) ⌝ }
     requires { ⌜ InWork (endsOf n (now tails) (now heads) (now capacities)) (now work) ⌝ }
     requires { ⌜ (length (now dist) ≡ n) × (length (now lowest) ≡ n) × Node n i × (atNode (now dist) i ≡ d + 1) ⌝ }
-    requires { ⌜ NoneLower (rowWays (now tails) (now heads) (now capacities) (now minimums) (now flow)) n (now dist) (now lowest) ⌝ }
-    ensures place { λ r. ⌜ r ≡ next (rowWays (now (tails .entry)) (now (heads .entry)) (now (capacities .entry)) (now (minimums .entry)) (now (flow .entry))) (now (dist .entry)) d i ⌝ }
-    ensures noted { λ _. ⌜ NoneLower (rowWays (now (tails .entry)) (now (heads .entry)) (now (capacities .entry)) (now (minimums .entry)) (now (flow .entry))) n (now (dist .entry)) (now (lowest .exit)) ⌝ }
+    requires { ⌜ NoneLower (givenWays tails heads capacities minimums flow) n (now dist) (now lowest) ⌝ }
+    ensures place { λ r. ⌜ r ≡ next (lentWays tails heads capacities minimums flow) (before dist) d i ⌝ }
+    ensures noted { λ _. ⌜ NoneLower (lentWays tails heads capacities minimums flow) n (before dist) (after lowest) ⌝ }
 {
     let at = (i - 1) as usize;
     let noted = lowest[at] as usize;
@@ -292,7 +295,7 @@ fn residual_at(
 ) -> u32
     requires { ⌜ (k < length (now tails)) × (k < length (now capacities)) × (k < length (now minimums)) × (k < length (now flow)) ⌝ }
     requires { ⌜ (getD (now minimums) k 0 ≤ getD (now flow) k 0) × (getD (now flow) k 0 ≤ getD (now capacities) k 0) ⌝ }
-    ensures { λ r. ⌜ r ≡ cond (eqb (getD (now (tails .entry)) k 0) i) (getD (now (capacities .entry)) k 0 - getD (now (flow .entry)) k 0) (getD (now (flow .entry)) k 0 - getD (now (minimums .entry)) k 0) ⌝ }
+    ensures { λ r. ⌜ r ≡ cond (eqb (getD (before tails) k 0) i) (getD (before capacities) k 0 - getD (before flow) k 0) (getD (before flow) k 0 - getD (before minimums) k 0) ⌝ }
 {
     let f = flow[k];
     if tails[k] == i {
@@ -304,7 +307,7 @@ fn residual_at(
 // The far end of the arc at place k, away from node i.
 fn far_at(tails: &[u32], heads: &[u32], i: u32, k: usize) -> u32
     requires { ⌜ (k < length (now tails)) × (k < length (now heads)) ⌝ }
-    ensures { λ r. ⌜ r ≡ cond (eqb (getD (now (tails .entry)) k 0) i) (getD (now (heads .entry)) k 0) (getD (now (tails .entry)) k 0) ⌝ }
+    ensures { λ r. ⌜ r ≡ cond (eqb (getD (before tails) k 0) i) (getD (before heads) k 0) (getD (before tails) k 0) ⌝ }
 {
     far_of(i, tails[k], heads[k])
 }
@@ -337,8 +340,8 @@ fn walk(
     requires { ⌜ Ready n s t (now tails) (now heads) (now capacities) (now minimums) (now flow) ⌝ }
     requires { ⌜ InWork (endsOf n (now tails) (now heads) (now capacities)) (now work) ⌝ }
     requires { ⌜ (length (now lowest) ≡ n) × (n ≤ length (now chain)) ⌝ }
-    requires { ⌜ Known (rowWays (now tails) (now heads) (now capacities) (now minimums) (now flow)) n t (now dist) (now lowest) ⌝ }
-    ensures { λ r. ⌜ Walked (boundNetwork n s t (now (tails .entry)) (now (heads .entry)) (now (capacities .entry)) (now (minimums .entry))) (now (flow .entry)) (now (dist .entry)) (now (lowest .exit)) (now (chain .exit)) r ⌝ }
+    requires { ⌜ Known (givenWays tails heads capacities minimums flow) n t (now dist) (now lowest) ⌝ }
+    ensures { λ r. ⌜ Walked (lentNetwork n s t tails heads capacities minimums) (before flow) (before dist) (after lowest) (after chain) r ⌝ }
 {
     let mut i = s;
     let mut d = dist[(s - 1) as usize];
@@ -374,7 +377,7 @@ fn walk(
 fn move_at(tails: &[u32], flow: &mut [u32], i: u32, k: usize, d: u32)
     requires { ⌜ (k < length (now tails)) × (k < length (now flow)) ⌝ }
     requires { ⌜ (getD (now tails) k 0 ≡ i → getD (now flow) k 0 + d < 4294967296) × ((getD (now tails) k 0 ≡ i → ⊥) → d ≤ getD (now flow) k 0) ⌝ }
-    ensures { λ _. ⌜ now (flow .exit) ≡ set (now (flow .entry)) k (cond (eqb (getD (now (tails .entry)) k 0) i) (getD (now (flow .entry)) k 0 + d) (getD (now (flow .entry)) k 0 - d)) ⌝ }
+    ensures { λ _. ⌜ after flow ≡ set (before flow) k (cond (eqb (getD (before tails) k 0) i) (getD (before flow) k 0 + d) (getD (before flow) k 0 - d)) ⌝ }
 {
     let f = flow[k];
     if tails[k] == i {
@@ -398,9 +401,9 @@ fn fill(
     d: u32,
 )
     requires { ⌜ Rows n (now tails) (now heads) (now capacities) (now minimums) (now flow) ⌝ }
-    requires { ⌜ Fits (boundNetwork n s t (now tails) (now heads) (now capacities) (now minimums)) d s (now chain) (now flow) ⌝ }
+    requires { ⌜ Fits (givenNetwork n s t tails heads capacities minimums) d s (now chain) (now flow) ⌝ }
     requires { ⌜ 0 < d ⌝ }
-    ensures { λ _. ⌜ now (flow .exit) ≡ filled (boundNetwork n s t (now (tails .entry)) (now (heads .entry)) (now (capacities .entry)) (now (minimums .entry))) d s (now (chain .entry)) (now (flow .entry)) ⌝ }
+    ensures { λ _. ⌜ after flow ≡ filled (lentNetwork n s t tails heads capacities minimums) d s (before chain) (before flow) ⌝ }
 {
     let mut i = s;
     let mut p = 0;
@@ -429,8 +432,8 @@ fn measure_anew(
     requires { ⌜ Rows n (now tails) (now heads) (now capacities) (now minimums) (now flow) ⌝ }
     requires { ⌜ InWork (endsOf n (now tails) (now heads) (now capacities)) (now work) ⌝ }
     requires { ⌜ Node n t × (length (now dist) ≡ n) × (length (now lowest) ≡ n) × (n ≤ length (now todo)) ⌝ }
-    ensures labels { λ _. ⌜ now (dist .exit) ≡ distances (rowWays (now (tails .entry)) (now (heads .entry)) (now (capacities .entry)) (now (minimums .entry)) (now (flow .entry))) n t ⌝ }
-    ensures known { λ _. ⌜ Known (rowWays (now (tails .entry)) (now (heads .entry)) (now (capacities .entry)) (now (minimums .entry)) (now (flow .entry))) n t (now (dist .exit)) (now (lowest .exit)) ⌝ }
+    ensures labels { λ _. ⌜ after dist ≡ distances (lentWays tails heads capacities minimums flow) n t ⌝ }
+    ensures known { λ _. ⌜ Known (lentWays tails heads capacities minimums flow) n t (after dist) (after lowest) ⌝ }
 {
     measure(
         tails,
@@ -466,8 +469,8 @@ fn find(
     requires { ⌜ Ready n s t (now tails) (now heads) (now capacities) (now minimums) (now flow) ⌝ }
     requires { ⌜ InWork (endsOf n (now tails) (now heads) (now capacities)) (now work) ⌝ }
     requires { ⌜ (length (now lowest) ≡ n) × (n ≤ length (now chain)) ⌝ }
-    requires { ⌜ Known (rowWays (now tails) (now heads) (now capacities) (now minimums) (now flow)) n t (now dist) (now lowest) ⌝ }
-    ensures { λ r. ⌜ Found (boundNetwork n s t (now (tails .entry)) (now (heads .entry)) (now (capacities .entry)) (now (minimums .entry))) (now (flow .entry)) (now (dist .exit)) (now (lowest .exit)) (now (chain .exit)) r ⌝ }
+    requires { ⌜ Known (givenWays tails heads capacities minimums flow) n t (now dist) (now lowest) ⌝ }
+    ensures { λ r. ⌜ Found (lentNetwork n s t tails heads capacities minimums) (before flow) (after dist) (after lowest) (after chain) r ⌝ }
 {
     let least = walk(
         tails,
@@ -533,9 +536,9 @@ fn extend(
     requires { ⌜ Ready n s t (now tails) (now heads) (now capacities) (now minimums) (now flow) ⌝ }
     requires { ⌜ InWork (endsOf n (now tails) (now heads) (now capacities)) (now work) ⌝ }
     requires { ⌜ (length (now lowest) ≡ n) × (n ≤ length (now chain)) ⌝ }
-    requires { ⌜ Known (rowWays (now tails) (now heads) (now capacities) (now minimums) (now flow)) n t (now dist) (now lowest) ⌝ }
-    ensures row { λ r. ⌜ Extended (boundNetwork n s t (now (tails .entry)) (now (heads .entry)) (now (capacities .entry)) (now (minimums .entry))) (now (flow .entry)) (now (flow .exit)) r ⌝ }
-    ensures known { λ _. ⌜ Known (rowWays (now (tails .entry)) (now (heads .entry)) (now (capacities .entry)) (now (minimums .entry)) (now (flow .exit))) n t (now (dist .exit)) (now (lowest .exit)) ⌝ }
+    requires { ⌜ Known (givenWays tails heads capacities minimums flow) n t (now dist) (now lowest) ⌝ }
+    ensures row { λ r. ⌜ Extended (lentNetwork n s t tails heads capacities minimums) (before flow) (after flow) r ⌝ }
+    ensures known { λ _. ⌜ Known (rowWays (before tails) (before heads) (before capacities) (before minimums) (after flow)) n t (after dist) (after lowest) ⌝ }
 {
     let least = find(
         tails,
@@ -588,7 +591,7 @@ fn go_on_with(
     requires { ⌜ Ready n s t (now tails) (now heads) (now capacities) (now minimums) (now flow) ⌝ }
     requires { ⌜ InWork (endsOf n (now tails) (now heads) (now capacities)) (now work) ⌝ }
     requires { ⌜ (length (now dist) ≡ n) × (length (now lowest) ≡ n) × (n ≤ length (now chain)) ⌝ }
-    ensures { λ _. ⌜ now (flow .exit) ≡ settled (boundNetwork n s t (now (tails .entry)) (now (heads .entry)) (now (capacities .entry)) (now (minimums .entry))) (now (flow .entry)) ⌝ }
+    ensures { λ _. ⌜ after flow ≡ settled (lentNetwork n s t tails heads capacities minimums) (before flow) ⌝ }
 {
     measure_anew(
         tails,
@@ -633,7 +636,7 @@ pub fn go_on(
 )
     requires { ⌜ Ready n s t (now tails) (now heads) (now capacities) (now minimums) (now flow) ⌝ }
     requires { ⌜ InWork (endsOf n (now tails) (now heads) (now capacities)) (now work) ⌝ }
-    ensures { λ _. ⌜ now (flow .exit) ≡ settled (boundNetwork n s t (now (tails .entry)) (now (heads .entry)) (now (capacities .entry)) (now (minimums .entry))) (now (flow .entry)) ⌝ }
+    ensures { λ _. ⌜ after flow ≡ settled (lentNetwork n s t tails heads capacities minimums) (before flow) ⌝ }
 {
     let mut dist = [0u32; 514];
     let mut lowest = [0u32; 514];

@@ -1,5 +1,5 @@
 -- Labels stay labels while chains by them are filled, and a chain by labels that arrives is the chain to fill: so distances need be measured anew only where none arrives.
-use Prim.Native.Nat.{ℕ, suc, _≤_, _<_}
+use Prim.Native.Nat.{ℕ, suc, _≤_}
 use mathlib.Core.Path.{_≡_, refl, sym, ap, subst, _∙_}
 use mathlib.Core.Logic.{_⊎_, inl, inr, ⊎-elim}
 use mathlib.Core.Bool.{true, false, true≢false}
@@ -15,7 +15,7 @@ use Rattle.shortest.specs.Ways.{Leads, ahead, behind, otherEnd}
 use Rattle.shortest.specs.Distance.{Labels, leadsTo, chainFrom, arrives, NoneLower}
 use Rattle.shortest.specs.Chain.{Chain, arrived, step, FirstChain}
 use Rattle.shortest.specs.Augment.{moved, waysIn, wayFrom, movedAt, filled, leastResidual, distancesIn, reaches, chainIn, augmented}
-use Rattle.shortest.proofs.Chains.{chain-long, chosen-long, leads-place, leadsTo-leads, leads-leadsTo, arrives-first, first-chain-same}
+use Rattle.shortest.proofs.Chains.{chain-long, leads-place, leadsTo-leads, leads-leadsTo, arrives-first, first-chain-same}
 use Rattle.shortest.proofs.Filling.{lead-far, moved-other}
 use Rattle.shortest.proofs.Settling.{ways-ends, source-within, distances-in, distances-reach, chain-first, stopped-no-chain}
 

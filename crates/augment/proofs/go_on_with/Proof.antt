@@ -1,6 +1,5 @@
 -- `go_on_with` meets its contract. The invariant: the rows stay ready, lead to the same end, and what is known of the labels holds. The measure is what the capacities out of the source still allow.
-use Prim.Native.Nat.{_≤_}
-use mathlib.Core.Path.{_≡_, refl, sym, subst, _∙_}
+use mathlib.Core.Path.{_≡_, refl, _∙_}
 use native.Mathlib.Omega.{arith}
 use lib.ListN.{length}
 use Rattle.shortest.specs.Augment.{boundNetwork, settled}

@@ -1,5 +1,4 @@
 -- `measure_anew` meets its contract: the distances, and no place noted.
-use mathlib.Core.Path.{_∙_}
 use borrow.Author.Needs.{needs}
 use Rattle.shortest.proofs.Ends.{rows-ends}
 use Rattle.augment.proofs.Walking.{measured-known}

@@ -3,7 +3,6 @@ use Prim.Native.Nat.{_-_}
 use mathlib.Core.Path.{sym, _∙_}
 use native.Mathlib.Omega.{arith}
 use borrow.Author.Needs.{needs}
-use Rattle.rows.proofs.Rows.{node-at}
 use Rattle.shortest.specs.Augment.{boundNetwork}
 use Rattle.shortest.proofs.Ends.{rows-ends}
 use Rattle.augment.proofs.Giving.{place-within}
