@@ -16,13 +16,13 @@ use Rattle.rows.specs.Row.{atPlace, atNode, Node}
 use Rattle.network.specs.Network.{Network, Flow, residualOver}
 use Rattle.reach.proofs.Visiting.{left-test}
 use Rattle.shortest.specs.Ways.{Ways, Leads, otherEnd}
-use Rattle.shortest.specs.Distance.{Labels, leadsBy, leadsTo, lowest, next, chainFrom, arrives, distances, NoneLower}
+use Rattle.shortest.specs.Distance.{Labels, leadsBy, leadsTo, lowest, next, chainFrom, arrives, distances}
 use Rattle.shortest.specs.Augment.{waysIn, wayFrom, residualFrom, farFrom, leastWith, leastResidual}
 use Rattle.shortest.specs.Rows.{rowWays, Rows}
 use Rattle.shortest.proofs.Ends.{Ends, leads-within}
 use Rattle.shortest.proofs.Laying.{set-there, set-elsewhere, distances-right}
 use Rattle.shortest.proofs.Chains.{LowestIs, lowest-is, found-leads}
-use Rattle.augment.specs.Walks.{Known, Walked}
+use Rattle.augment.specs.Walks.{Noted, Known, Walked}
 use Rattle.augment.proofs.Pouring.{far-picked}
 
 -- ---- `far_of` and `leads`: away from the tail, away from the head, or neither
@@ -125,10 +125,11 @@ unfolding chainFrom
 walk-done w row d i p chain whole z so = sym (append-nil (take p chain)) ∙ ap (λ x. take p chain ++ chainFrom w row x i) (sym z) ∙ so
 
 -- p places of the chain from the source are there, and it goes on from node i with the label d: it arrives from there where it arrives at all, and its least residual is that of what is left, from `least` on.
-pub record Walking (N : Network) (flow row chain₀ lowest chain : List ℕ) (i d least p : ℕ) : Type 0 where
+pub record Walking (N : Network) (flow row chain₀ lowest far chain : List ℕ) (i d least p : ℕ) : Type 0 where
   pub long : length chain ≡ length chain₀
   pub lowest-long : length lowest ≡ N .n
-  pub none-lower : NoneLower (waysIn N flow) (N .n) row lowest
+  pub far-long : length far ≡ N .n
+  pub noted : Noted (waysIn N flow) (N .n) row lowest far
   pub count : p + d ≡ atNode row (N .s)
   pub node : Node (N .n) i
   pub at : atNode row i ≡ d
@@ -137,11 +138,11 @@ pub record Walking (N : Network) (flow row chain₀ lowest chain : List ℕ) (i 
   pub value : leastWith N flow least i (chainFrom (waysIn N flow) row d i) ≡ leastWith N flow 4294967295 (N .s) (chainFrom (waysIn N flow) row (atNode row (N .s)) (N .s))
 
 -- Nothing is walked yet.
-pub walking-start : (N : Network) (flow row chain lowest : List ℕ) → Node (N .n) (N .s) → length lowest ≡ N .n → NoneLower (waysIn N flow) (N .n) row lowest
-    → Walking N flow row chain lowest chain (N .s) (getD row (N .s - 1) 0) 4294967295 0
-walking-start N flow row chain lowest hs long none =
-    subst (λ d. Walking N flow row chain lowest chain (N .s) d 4294967295 0) (node-at row (N .s) (hs .0))
-    (record { long = refl; lowest-long = long; none-lower = none; count = omega arith; node = hs; at = refl; whole = refl; on = refl; value = refl })
+pub walking-start : (N : Network) (flow row chain lowest far : List ℕ) → Node (N .n) (N .s) → length lowest ≡ N .n → length far ≡ N .n → Noted (waysIn N flow) (N .n) row lowest far
+    → Walking N flow row chain lowest far chain (N .s) (getD row (N .s - 1) 0) 4294967295 0
+walking-start N flow row chain lowest far hs long far-long noted =
+    subst (λ d. Walking N flow row chain lowest far chain (N .s) d 4294967295 0) (node-at row (N .s) (hs .0))
+    (record { long = refl; lowest-long = long; far-long = far-long; noted = noted; count = omega arith; node = hs; at = refl; whole = refl; on = refl; value = refl })
 
 module _ (w : Ways) (row : List ℕ) (e i : ℕ) where
   -- A chain goes on where a place is found,
@@ -174,19 +175,20 @@ value-turn N flow row d e least i k de ek =
     ∙ ap (λ x. leastWith N flow least i (x ∷ chainFrom (waysIn N flow) row e (otherEnd (waysIn N flow) i x))) ek
     ∙ ap (λ x. leastWith N flow least i (chainFrom (waysIn N flow) row x i)) (sym de)
 
-module _ {N : Network} {flow : List ℕ} (ends : Ends (N .n) (waysIn N flow)) {row chain₀ lowest chain : List ℕ} {i d least p k : ℕ}
-    (so : Walking N flow row chain₀ lowest chain i d least p) (more : 0 < d) (is : k ≡ next (waysIn N flow) row (d - 1) i) where
+module _ {N : Network} {flow : List ℕ} (ends : Ends (N .n) (waysIn N flow)) {row chain₀ lowest far chain : List ℕ} {i d least p k : ℕ}
+    (so : Walking N flow row chain₀ lowest far chain i d least p) (more : 0 < d) (is : k ≡ next (waysIn N flow) row (d - 1) i) where
   -- One place more.
-  pub walking-turn : atNode row (N .s) ≤ length chain₀ → k < N .m → {lowest′ : List ℕ} {q r j : ℕ} → length lowest′ ≡ length lowest → NoneLower (waysIn N flow) (N .n) row lowest′
-      → q ≡ residualFrom N flow i k → r ≡ min least q → j ≡ otherEnd (waysIn N flow) i k
-      → Walking N flow row chain₀ lowest′ (set chain p k) j (d - 1) r (p + 1)
-  walking-turn fits here {lowest′} {q} {r} {j} long none eq er ej =
-      subst (λ x. Walking N flow row chain₀ lowest′ (set chain p k) x (d - 1) r (p + 1)) (sym ej)
-      (subst (λ x. Walking N flow row chain₀ lowest′ (set chain p k) (otherEnd (waysIn N flow) i k) (d - 1) x (p + 1)) (sym (er ∙ ap (min least) eq))
+  pub walking-turn : atNode row (N .s) ≤ length chain₀ → k < N .m → {lowest′ far′ : List ℕ} {q r j : ℕ} → length lowest′ ≡ length lowest → length far′ ≡ length far
+      → Noted (waysIn N flow) (N .n) row lowest′ far′ → q ≡ residualFrom N flow i k → r ≡ min least q → j ≡ otherEnd (waysIn N flow) i k
+      → Walking N flow row chain₀ lowest′ far′ (set chain p k) j (d - 1) r (p + 1)
+  walking-turn fits here {lowest′} {far′} {q} {r} {j} long far-long noted eq er ej =
+      subst (λ x. Walking N flow row chain₀ lowest′ far′ (set chain p k) x (d - 1) r (p + 1)) (sym ej)
+      (subst (λ x. Walking N flow row chain₀ lowest′ far′ (set chain p k) (otherEnd (waysIn N flow) i k) (d - 1) x (p + 1)) (sym (er ∙ ap (min least) eq))
       (record {
         long = length-set chain p k ∙ so .long;
         lowest-long = long ∙ so .lowest-long;
-        none-lower = none;
+        far-long = far-long ∙ so .far-long;
+        noted = noted;
         count = omega (arith, so .count);
         node = leads-within (waysIn N flow) (N .n) _ i _ ends (there .0) .1;
         at = there .1;
@@ -213,12 +215,12 @@ module _ {N : Network} {flow : List ℕ} (ends : Ends (N .n) (waysIn N flow)) {r
       before = omega arith
 
   -- No place is found: the walk does not arrive.
-  pub walking-stuck : N .m ≤ k → {lowest′ : List ℕ} → NoneLower (waysIn N flow) (N .n) row lowest′ → Walked N flow row lowest′ chain 0
-  walking-stuck past none =
+  pub walking-stuck : N .m ≤ k → {lowest′ far′ : List ℕ} → Noted (waysIn N flow) (N .n) row lowest′ far′ → Walked N flow row lowest′ far′ chain 0
+  walking-stuck past noted =
       record {
         told = rw nowhere;
         places = λ l. absurd (omega arith);
-        none-lower = none;
+        noted = noted;
       }
     where
       before : d ≡ suc (d - 1)
@@ -251,13 +253,13 @@ least-of N flow row valid small (suc d) i l e =
     least-from N flow 4294967295 i (next (waysIn N flow) row d i) _ (omega (arith, residual-most N flow valid i (next (waysIn N flow) row d i) within, small (next (waysIn N flow) row d i)))
 
 -- At label 0 the whole chain is there.
-pub walking-done : {N : Network} {flow row chain₀ lowest chain : List ℕ} {i d least p : ℕ} → Walking N flow row chain₀ lowest chain i d least p → d ≡ 0
-    → Flow N (atPlace flow) → ((k : ℕ) → N .capacity k ≤ 4294967295) → 0 < atNode row (N .s) → Walked N flow row lowest chain least
-walking-done {N} {flow} {row} {chain₀} {lowest} {chain} {i} {d} {least} {p} so z valid small far =
+pub walking-done : {N : Network} {flow row chain₀ lowest far chain : List ℕ} {i d least p : ℕ} → Walking N flow row chain₀ lowest far chain i d least p → d ≡ 0
+    → Flow N (atPlace flow) → ((k : ℕ) → N .capacity k ≤ 4294967295) → 0 < atNode row (N .s) → Walked N flow row lowest far chain least
+walking-done {N} {flow} {row} {chain₀} {lowest} {far} {chain} {i} {d} {least} {p} so z valid small away =
     record {
-      told = rw there (all ∙ so .value ∙ least-of N flow row valid small (atNode row (N .s)) (N .s) far there);
+      told = rw there (all ∙ so .value ∙ least-of N flow row valid small (atNode row (N .s)) (N .s) away there);
       places = λ _. ap (λ x. take x chain) (sym count) ∙ walk-done (waysIn N flow) row d i p chain (chainFrom (waysIn N flow) row (atNode row (N .s)) (N .s)) z (so .whole);
-      none-lower = so .none-lower;
+      noted = so .noted;
     }
   where
     count : p ≡ atNode row (N .s)
@@ -276,35 +278,83 @@ pub next-most : (w : Ways) (row : List ℕ) (d i : ℕ) → next w row d i ≤ w
 unfolding next
 next-most w row d i = ⊎-elim (λ p. omega (arith, p .0)) (λ e. omega arith) (lowest-is (leadsTo w row d i) (w .places) .1)
 
--- A place noted that leads one nearer still is the lowest.
-pub noted-lowest : (w : Ways) (n : ℕ) (row lowest : List ℕ) → NoneLower w n row lowest → (d i k : ℕ) → Node n i → atNode row i ≡ d + 1 → k ≡ getD lowest (i - 1) 0 → k < w .places
-    → leadsTo w row d i k ≡ true → k ≡ next w row d i
-unfolding next
-noted-lowest w n row lowest none d i k hi at is here leads =
-    lowest-unique (leadsTo w row d i) (w .places) k (
-      (λ p less. none i d p hi (at ∙ add-one d) (omega (arith, node-at lowest i (hi .0))) (omega arith)),
-      inl (here, leads),
-    )
+module _ {w : Ways} {n : ℕ} {row lowest far : List ℕ} (noted : Noted w n row lowest far) (d i k : ℕ) (hi : Node n i) (at : atNode row i ≡ d + 1) where
+  -- A place noted that leads one nearer still is the lowest,
+  pub noted-lowest : k ≡ getD lowest (i - 1) 0 → k < w .places → leadsTo w row d i k ≡ true → k ≡ next w row d i
+  unfolding next
+  noted-lowest is here leads =
+      lowest-unique (leadsTo w row d i) (w .places) k (
+        (λ p less. noted .none-lower i d p hi (at ∙ add-one d) (omega (arith, node-at lowest i (hi .0))) (omega (arith, node-at lowest i (hi .0)))),
+        inl (here, leads),
+      )
 
--- The lowest place may be noted.
-pub lowest-noted : (w : Ways) (n : ℕ) (row lowest : List ℕ) → NoneLower w n row lowest → length lowest ≡ n → (d i k : ℕ) → Node n i → atNode row i ≡ d + 1 → k ≡ next w row d i
-    → NoneLower w n row (set lowest (i - 1) k)
-unfolding next
-lowest-noted w n row lowest none long d i k hi at is x e p hx ax below within =
-    by-equal x i
-    (λ q.
-    let level : e ≡ d = omega (arith, ap (atNode row) q) in
-    let noted : atNode (set lowest (i - 1) k) x ≡ k = ap (atNode (set lowest (i - 1) k)) q ∙ set-there lowest i k (subst (λ l. Node l i) (sym long) hi) in
-    ap (λ z. leadsTo w row z x p) level ∙ ap (λ z. leadsTo w row d z p) q ∙ lowest-is (leadsTo w row d i) (w .places) .0 p (omega (arith, below, noted, is)))
-    (λ ne. none x e p hx ax (omega (arith, below, set-elsewhere lowest i k x (hi .0) (hx .0) ne)) within)
+  -- and its far end stands beside it.
+  pub noted-far : k ≡ getD lowest (i - 1) 0 → k < w .places → atNode far i ≡ otherEnd w i k
+  noted-far is here =
+      let same : atNode lowest i ≡ k = node-at lowest i (hi .0) ∙ sym is in
+      noted .far-end i hi (omega arith) ∙ ap (otherEnd w i) same
+
+  module _ (long : length lowest ≡ n) where
+    -- What is set there,
+    set-here : atNode (set lowest (i - 1) k) i ≡ k
+    set-here = set-there lowest i k (subst (λ l. Node l i) (sym long) hi)
+
+    -- and what stays.
+    set-away : (x : ℕ) → Node n x → (x ≡ i → ⊥) → atNode (set lowest (i - 1) k) x ≡ atNode lowest x
+    set-away x hx ne = set-elsewhere lowest i k x (hi .0) (hx .0) ne
+
+    -- That there is no place may be noted,
+    pub nowhere-noted : w .places ≤ k → Noted w n row (set lowest (i - 1) k) far
+    nowhere-noted past =
+        record {
+          none-lower = λ x e p hx ax here below.
+              by-equal x i
+              (λ q. absurd (omega (arith, here, ap (atNode (set lowest (i - 1) k)) q, set-here)))
+              (λ ne. let same = set-away x hx ne in noted .none-lower x e p hx ax (omega (arith, here, same)) (omega (arith, below, same)));
+          far-end = λ x hx here.
+              by-equal x i
+              (λ q. absurd (omega (arith, here, ap (atNode (set lowest (i - 1) k)) q, set-here)))
+              (λ ne. let same = set-away x hx ne in noted .far-end x hx (omega (arith, here, same)) ∙ ap (otherEnd w x) (sym same));
+        }
+
+    -- and the lowest place with its far end.
+    pub lowest-noted : length far ≡ n → k ≡ next w row d i → {j : ℕ} → j ≡ otherEnd w i k → Noted w n row (set lowest (i - 1) k) (set far (i - 1) j)
+    unfolding next
+    lowest-noted far-long is {j} ej =
+        record {
+          none-lower = λ x e p hx ax here below.
+              by-equal x i
+              (λ q.
+              let level : e ≡ d = omega (arith, ap (atNode row) q) in
+              ap (λ z. leadsTo w row z x p) level ∙ ap (λ z. leadsTo w row d z p) q
+              ∙ lowest-is (leadsTo w row d i) (w .places) .0 p (omega (arith, below, ap (atNode (set lowest (i - 1) k)) q, set-here, is)))
+              (λ ne. let same = set-away x hx ne in noted .none-lower x e p hx ax (omega (arith, here, same)) (omega (arith, below, same)));
+          far-end = λ x hx here.
+              by-equal x i
+              (λ q.
+              ap (atNode (set far (i - 1) j)) q ∙ set-there far i j (subst (λ l. Node l i) (sym far-long) hi) ∙ ej ∙ ap (otherEnd w i) (sym set-here)
+              ∙ ap (λ z. otherEnd w z (atNode (set lowest (i - 1) k) z)) (sym q))
+              (λ ne.
+              let same = set-away x hx ne in
+              set-elsewhere far i j x (hi .0) (hx .0) ne ∙ noted .far-end x hx (omega (arith, here, same)) ∙ ap (otherEnd w x) (sym same));
+        }
+
+    -- It stands there.
+    pub far-noted : length far ≡ n → {j : ℕ} → atNode (set far (i - 1) j) i ≡ j
+    far-noted far-long {j} = set-there far i j (subst (λ l. Node l i) (sym far-long) hi)
 
 -- ---- `measure_anew`
 
--- The distances are labels, and of no node a place is noted.
-pub measured-known : {n t : ℕ} {w : Ways} → Ends n w → Node n t → {dist lowest : List ℕ} {l : ℕ} → dist ≡ distances w n t → lowest ≡ replicate l 0 → l ≡ n → Known w n t dist lowest
-measured-known {n} {t} {w} ends ht {dist} {lowest} {l} right none long =
+-- The distances are labels, and where no place is noted nothing is said.
+pub measured-known : {n t : ℕ} {w : Ways} → Ends n w → Node n t → {dist lowest far : List ℕ} {l : ℕ} → dist ≡ distances w n t → lowest ≡ replicate l (w .places) → l ≡ n → Known w n t dist lowest far
+measured-known {n} {t} {w} ends ht {dist} {lowest} {far} {l} right none long =
     record {
       labels = subst (Labels w n t) (sym right) (distances-right w n t ends ht .labels);
-      none-lower = λ i d p hi at below within.
-          absurd (omega (arith, below, ap (λ r. atNode r i) none, node-at (replicate l 0) i (hi .0), getD-replicate {A = ℕ} l (i - 1) 0 0 (omega (arith, hi))));
+      noted = record {
+        none-lower = λ i d p hi at here below. absurd (omega (arith, here, past i hi));
+        far-end = λ i hi here. absurd (omega (arith, here, past i hi));
+      };
     }
+  where
+    past : (i : ℕ) → Node n i → atNode lowest i ≡ w .places
+    past i hi = ap (λ r. atNode r i) none ∙ node-at (replicate l (w .places)) i (hi .0) ∙ getD-replicate {A = ℕ} l (i - 1) (w .places) 0 (omega (arith, hi))

@@ -81,15 +81,15 @@ module _ (N : Network) (sound : Sound N) (n : ℕ) (flow row : List ℕ) (low : 
 
     -- and below a place where none led one nearer none does.
     pub filled-none-lower : (lowest : List ℕ) → NoneLower (waysIn N flow) n row lowest → NoneLower (waysIn N (filled N d i ls flow)) n row lowest
-    filled-none-lower lowest none x e p hx ax below within =
+    filled-none-lower lowest none x e p hx ax noted below =
         by-test (leadsTo (waysIn N (filled N d i ls flow)) row e x p)
         (λ yes.
-        let (lead, far) = leadsTo-leads (waysIn N (filled N d i ls flow)) row e x p within yes in
+        let (lead, far) = leadsTo-leads (waysIn N (filled N d i ls flow)) row e x p (omega (arith, noted, below)) yes in
         ⊎-elim
         (λ old.
         absurd
         (true≢false
-        (sym (leads-leadsTo (waysIn N flow) row e x (otherEnd (waysIn N flow) x p) p old (λ q. omega (arith, ap (atNode row) q)) far .0) ∙ none x e p hx ax below within)))
+        (sym (leads-leadsTo (waysIn N flow) row e x (otherEnd (waysIn N flow) x p) p old (λ q. omega (arith, ap (atNode row) q)) far .0) ∙ none x e p hx ax noted below)))
         (λ up. absurd (omega arith)) (filled-lead p x _ lead))
         (λ no. no)
 

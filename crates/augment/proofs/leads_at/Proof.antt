@@ -3,7 +3,7 @@ use Prim.Native.Nat.{_<_}
 use mathlib.Core.Path.{refl, _∙_}
 use lib.ListN.{length}
 use borrow.Author.Needs.{needs}
-use Rattle.augment.proofs.Giving.{ends-within, place-within}
+use Rattle.shortest.proofs.Ends.{ends-within, place-within}
 use Rattle.augment.proofs.Walking.{lead-test}
 use Rattle.augment.proofs.leads_at.Statement.{statement}
 use Rattle.augment.proofs.leads_at.Tie as tie

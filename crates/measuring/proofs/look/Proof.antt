@@ -1,8 +1,9 @@
 -- `look` meets its contract: the arc is taken from its head or from its tail.
-use Rattle.augment.proofs.Giving.{ends-within, look-back, look-fore}
+use Rattle.shortest.proofs.Ends.{ends-within}
+use Rattle.measuring.proofs.Giving.{look-back, look-fore}
 use borrow.Author.Needs.{needs}
-use Rattle.augment.proofs.look.Statement.{statement}
-use Rattle.augment.proofs.look.Tie as tie
+use Rattle.measuring.proofs.look.Statement.{statement}
+use Rattle.measuring.proofs.look.Tie as tie
 
 mul-f : tie.Need-mul-f
 mul-f c = search needs

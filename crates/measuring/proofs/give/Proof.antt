@@ -3,10 +3,10 @@ use mathlib.Core.Path.{sym, _∙_}
 use native.Mathlib.Omega.{arith}
 use borrow.Author.Tests.{not-true, not-false}
 use Rattle.rows.proofs.Rows.{node-at}
-use Rattle.augment.proofs.Visiting.{give-shut, give-again, give-new, given-place}
+use Rattle.measuring.proofs.Visiting.{give-shut, give-again, give-new, given-place}
 use borrow.Author.Needs.{needs}
-use Rattle.augment.proofs.give.Statement.{statement}
-use Rattle.augment.proofs.give.Tie as tie
+use Rattle.measuring.proofs.give.Statement.{statement}
+use Rattle.measuring.proofs.give.Tie as tie
 
 returns : tie.Need-returns
 returns c = give-shut _ _ _ _ _ (not-true _ (c .if1 .taken))

@@ -1,8 +1,7 @@
 -- Laws of the code's steps on the row of distances.
 use Prim.Native.Nat.{ℕ, _+_, _<_}
-use mathlib.Core.Path.{_≡_, sym, subst, _∙_}
+use mathlib.Core.Path.{_≡_, subst, _∙_}
 use mathlib.Core.List.{List, _++_, append-nil}
-use native.Mathlib.Omega.{arith}
 use lib.ListN.{length, getD, set, drop, replicate}
 use lib.Seq.{drop-length}
 use lib.Dec.{ltb}
@@ -11,9 +10,8 @@ use borrow.Author.Tests.{eq-eqb, ne-eqb}
 use Rattle.rows.specs.Row.{Node}
 use Rattle.reach.proofs.Visiting.{left-test}
 use Rattle.shortest.specs.Ways.{otherEnd}
-use Rattle.augment.specs.Visits.{mayInto, Front, giveOf}
+use Rattle.measuring.specs.Visits.{mayInto, Front, giveOf}
 use Rattle.shortest.specs.Rows.{rowWays, Rows}
-use Rattle.shortest.proofs.Ends.{rows-ends}
 
 -- ---- `look`: the arc taken from its head where node j is its tail, else from its tail
 
@@ -27,26 +25,6 @@ module _ {nodes : ℕ} {tails heads capacities minimums flow : List ℕ} (rows :
   pub look-fore : (getD tails k 0 ≡ j → ⊥) → g ≡ giveOf n d (ltb (getD flow k 0) (getD capacities k 0)) (getD tails k 0) f
       → g ≡ giveOf n d (mayInto (rowWays tails heads capacities minimums flow) j k) (otherEnd (rowWays tails heads capacities minimums flow) j k) f
   look-fore e gave = rw (ne-eqb (getD tails k 0) j e) (subst (λ y. g ≡ giveOf n d y (getD tails k 0) f) (left-test (getD flow k 0) (getD capacities k 0)) gave)
-
--- The ends of an arc are nodes, also of a row that has kept its length.
-pub ends-within : {tails heads capacities minimums flow : List ℕ} {n m : ℕ} (k : ℕ) → Rows n tails heads capacities minimums flow → m ≡ n → k < length capacities
-    → Node m (getD tails k 0) × Node m (getD heads k 0)
-ends-within {tails} {heads} k rows e h =
-    (subst (λ l. Node l (getD tails k 0)) (sym e) (rows-ends rows .tail-within k h), subst (λ l. Node l (getD heads k 0)) (sym e) (rows-ends rows .head-within k h))
-
--- A place of the rows is one of each of them.
-pub place-within : {tails heads capacities minimums flow : List ℕ} {n k : ℕ} → Rows n tails heads capacities minimums flow → k < length capacities
-    → (k < length tails) × (k < length heads) × (k < length minimums) × (k < length flow)
-place-within rows l = (
-  omega (arith, rows .arcs .capacities-long),
-  omega (arith, rows .arcs .capacities-long, rows .arcs .ends .heads-long),
-  omega (arith, rows .minimums-long),
-  omega (arith, rows .flow-long),
-)
-
--- The same rows, of a row that has kept its length.
-pub rows-kept : {tails heads capacities minimums flow : List ℕ} {n m : ℕ} → Rows n tails heads capacities minimums flow → m ≡ n → Rows m tails heads capacities minimums flow
-rows-kept {tails} {heads} {capacities} {minimums} {flow} rows e = subst (λ l. Rows l tails heads capacities minimums flow) (sym e) rows
 
 -- ---- `reset`: a row set to one number from the front, place by place
 

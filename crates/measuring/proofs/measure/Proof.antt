@@ -10,13 +10,13 @@ use Rattle.rows.proofs.Rows.{node-at}
 use Rattle.arcs.specs.Residual.{list, Places}
 use Rattle.arcs.proofs.Members.{list-places}
 use Rattle.shortest.specs.Ways.{Ways}
-use Rattle.augment.specs.Visits.{ListOf, front}
+use Rattle.measuring.specs.Visits.{ListOf, front}
 use Rattle.shortest.specs.Rows.{rowWays, endsOf}
 use Rattle.shortest.proofs.Ends.{Ends, rows-ends}
-use Rattle.augment.proofs.Lists.{listed}
-use Rattle.augment.proofs.Visiting.{Going, going-open, going-start, visit-turn, measured}
-use Rattle.augment.proofs.measure.Statement.{statement}
-use Rattle.augment.proofs.measure.Tie as tie
+use Rattle.measuring.proofs.Lists.{listed}
+use Rattle.measuring.proofs.Visiting.{Going, going-open, going-start, visit-turn, measured}
+use Rattle.measuring.proofs.measure.Statement.{statement}
+use Rattle.measuring.proofs.measure.Tie as tie
 
 abbrev Inv-loop : tie.InvT-loop
 Inv-loop tails heads capacities minimums flow work t none todo₀ dist₀ at₀ count₀ todo dist at count =

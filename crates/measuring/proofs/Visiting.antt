@@ -15,7 +15,7 @@ use Rattle.rows.proofs.Rows.{node-at}
 use Rattle.rows.proofs.Sums.{by-test, by-equal}
 use Rattle.shortest.specs.Ways.{Ways, Leads, ahead, behind, otherEnd}
 use Rattle.shortest.specs.Distance.{distances}
-use Rattle.augment.specs.Visits.{ListOf, mayInto, vacant, Front, front, given, giveOf, lookTo, Open}
+use Rattle.measuring.specs.Visits.{ListOf, mayInto, vacant, Front, front, given, giveOf, lookTo, Open}
 use Rattle.shortest.proofs.Ends.{Ends, leads-within}
 use Rattle.shortest.proofs.Laying.{Laid, set-there, set-elsewhere, start-laid, only-distances}
 

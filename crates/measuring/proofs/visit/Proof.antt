@@ -4,12 +4,12 @@ use mathlib.Core.Path.{_≡_, _∙_}
 use native.Mathlib.Nat.{le-antisymm}
 use borrow.Author.Needs.{needs}
 use lib.ListN.{length}
-use Rattle.augment.specs.Visits.{front, lookTo}
+use Rattle.measuring.specs.Visits.{front, lookTo}
 use Rattle.shortest.specs.Rows.{rowWays}
 use Rattle.shortest.proofs.Ends.{rows-ends}
-use Rattle.augment.proofs.Visiting.{Moved, moved-none, look-none, look-turn}
-use Rattle.augment.proofs.visit.Statement.{statement}
-use Rattle.augment.proofs.visit.Tie as tie
+use Rattle.measuring.proofs.Visiting.{Moved, moved-none, look-none, look-turn}
+use Rattle.measuring.proofs.visit.Statement.{statement}
+use Rattle.measuring.proofs.visit.Tie as tie
 
 abbrev Inv-loop : tie.InvT-loop
 Inv-loop tails heads capacities minimums flow list j d none todo₀ count dist₀ noted₀ p₀ todo dist noted p =
