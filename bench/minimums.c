@@ -288,30 +288,33 @@ static void measure_back(void) {
     run_took = 0;
 }
 
-/* Two sets of nodes, X and Y, with an arc of capacity 1 from each of X to each of Y. A way from node 2 enters X and leaves Y, or enters Y, goes back over
-   the arcs and leaves X, by turns: each turn enters one node further on a line from node 2 and leaves two nodes further from node n - 1. So in each turn
-   chains of fewest arcs fill all arcs between X and Y, or empty them, one by one, and then must be longer. The sizes are those with most chains. */
-static void make_turns(void) {
-    uint32_t size = 1, turns = 1, best = 0, k = 0;
+/* Two sets of nodes, X and Y, with an arc of capacity 1 from each of X to each of Y, or to one of Y alone. A way from node 2 enters X and leaves Y, or enters
+   Y, goes back over the arcs and leaves X, by turns: each turn enters one node further on a line from node 2 and leaves two nodes further from node n - 1. So
+   in each turn chains of fewest arcs fill all arcs between X and Y, or empty them, one by one, and then must be longer. Where each of X leads to one of Y
+   alone, each chain leaves a node behind from which nothing leads on. The sizes are those with most chains. */
+static void make_turns(int to_one) {
+    uint32_t size = 1, turns = 1, best = 0, most = 1, k = 0;
     for (uint32_t p = 1; 2 * p + 10 < nodes; p++)
-        for (uint32_t r = 1; 3 * r - 1 + 4 + 2 * p + 2 <= nodes && p * p + 4 * p + r - 1 + 2 * (r - 1) + 2 * r + 1 <= arcs; r++)
-            if (r * p * p > best && r * p * p < 1000000) best = r * p * p, size = p, turns = r;
+        for (uint32_t r = 1, between = to_one ? p : p * p;
+             3 * r - 1 + 4 + 2 * p + 2 <= nodes && between + 4 * p + r - 1 + 2 * (r - 1) + 2 * r + 1 <= arcs; r++)
+            if (r * between > best && r * between < 1000000) best = r * between, size = p, turns = r, most = between;
     const uint32_t entry = 2, hubs = entry + turns, x = hubs + 4, y = x + size;
     for (uint32_t r = 0; r < turns; r++) {
-        arc(k++, entry + r, hubs + r % 2, size * size);
-        arc(k++, hubs + 2 + r % 2, nodes - 1 - 2 * r, size * size);
+        arc(k++, entry + r, hubs + r % 2, most);
+        arc(k++, hubs + 2 + r % 2, nodes - 1 - 2 * r, most);
     }
     for (uint32_t r = 0; r + 1 < turns; r++) arc(k++, entry + r, entry + r + 1, best);
     for (uint32_t r = 0; r < 2 * (turns - 1); r++) arc(k++, nodes - 2 - r, nodes - 1 - r, best);
     for (uint32_t i = 0; i < size; i++)
-        for (uint32_t j = 0; j < size; j++) arc(k++, x + i, y + j, 1);
+        for (uint32_t j = 0; j < size; j++)
+            if (!to_one || i == j) arc(k++, x + i, y + j, 1);
     for (uint32_t i = 0; i < size; i++) {
         arc(k++, hubs, x + i, best);
         arc(k++, hubs + 1, y + i, best);
         arc(k++, y + i, hubs + 2, best);
         arc(k++, x + i, hubs + 3, best);
     }
-    while (k < arcs) arc(k++, x, y, 0);
+    for (; k < arcs; k++) arc(k, x + k % size, y + k / size % size, 0);
 }
 
 int main(int count, char **words) {
@@ -329,8 +332,10 @@ int main(int count, char **words) {
         make_line();
         measure_forced("line");
         measure_back();
-        make_turns();
+        make_turns(0);
         measure_forced("turns");
+        make_turns(1);
+        measure_forced("dead ends");
         report("made against it");
     }
     return 0;

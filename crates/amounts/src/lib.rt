@@ -3,6 +3,7 @@ use scan::Number;
 ghost use mathlib.Core.Path.{_≡_};
 ghost use Prim.Native.Nat.{_≤_};
 ghost use lib.ListN.{length};
+ghost use Rattle.rows.specs.Lent.{before};
 ghost use Rattle.amounts.specs.Lines.{valueOf, flowOf, kindOf, stepOf, endOf, judged};
 
 // The tail, the head and the flow of an `f` line.
@@ -34,7 +35,7 @@ pub enum Judged {
 
 // `s VALUE`, of a line whose first field is `s`.
 fn value_line(line: &[u8]) -> Kind
-    ensures { λ r. ⌜ r ≡ valueOf (now (line .entry)) ⌝ }
+    ensures { λ r. ⌜ r ≡ valueOf (before line) ⌝ }
 {
     if scan::field_count(line) != 2 {
         return Kind::Other;
@@ -47,7 +48,7 @@ fn value_line(line: &[u8]) -> Kind
 
 // `f TAIL HEAD FLOW`, of a line whose first field is `f`.
 fn flow_line(line: &[u8]) -> Kind
-    ensures { λ r. ⌜ r ≡ flowOf (now (line .entry)) ⌝ }
+    ensures { λ r. ⌜ r ≡ flowOf (before line) ⌝ }
 {
     if scan::field_count(line) != 4 {
         return Kind::Other;
@@ -70,7 +71,7 @@ fn flow_line(line: &[u8]) -> Kind
 
 // What a line is.
 pub fn line_kind(line: &[u8]) -> Kind
-    ensures { λ r. ⌜ r ≡ kindOf (now (line .entry)) ⌝ }
+    ensures { λ r. ⌜ r ≡ kindOf (before line) ⌝ }
 {
     if scan::begins_with(line, b"c") {
         return Kind::Comment;
@@ -115,7 +116,7 @@ fn end_step(said: Number, place: u32) -> Judged
 // The text is judged in line order.
 pub fn judge_lines(text: &[u8]) -> Judged
     requires { ⌜ length (now text) ≤ 1048576 ⌝ }
-    ensures { λ r. ⌜ r ≡ judged (now (text .entry)) ⌝ }
+    ensures { λ r. ⌜ r ≡ judged (before text) ⌝ }
 {
     let mut said = Number::NoNumber;
     let mut place: u32 = 1;

@@ -1,6 +1,4 @@
-pub mod Visiting
 pub mod Walking
-pub mod Lists
-pub mod Giving
+pub mod Places
 pub mod Pouring
 pub mod Extending

@@ -7,16 +7,16 @@ ghost use mathlib.Core.Path.{_≡_};
 ghost use mathlib.Core.List.{_++_};
 ghost use Prim.Native.Nat.{_+_, _*_, _/_, _^_, _≤_, _<_};
 ghost use lib.ListN.{length, take, drop};
+ghost use Rattle.rows.specs.Lent.{before, after};
 ghost use Rattle.little.specs.Little.{bytesOfAll};
-ghost use Rattle.table.specs.Table.{tableOf};
-ghost use Rattle.table.specs.Accepted.{Accepted};
+ghost use Rattle.table.specs.Table.{tableOf, lentTable, givenTable};
 ghost use Rattle.table.specs.Checks.{sizesOf};
 ghost use Rattle.table.specs.Refusals.{numberOf};
 ghost use Rattle.table.specs.declared.Verdict.the-variants.{Fine};
 ghost use Rattle.minimums.specs.BoundedTable.{boundedOf};
 ghost use Rattle.planner.specs.Reading.{reading};
 ghost use Rattle.wire.specs.Rows.{arcTable, withoutMinimums, flowRow, returnedOf, hasByteRoom};
-ghost use Rattle.wire.specs.Solve.{served, seven, servingVerdict, serving};
+ghost use Rattle.wire.specs.Solve.{seven, servingVerdict, serving, servedIn};
 ghost use Rattle.wire.specs.Place.{told, three, toldAs, telling};
 
 // ---- what both calls share
@@ -54,7 +54,7 @@ fn has_byte_room(need: usize, n: u32, m: usize, flow: usize, side: usize, result
 // Writes m flows.
 fn write_flows(flow: &mut [u8], flows: &[u32], m: usize)
     requires { ⌜ (m ≤ 4096) × (m ≤ length (now flows)) × (4 * m ≤ length (now flow)) ⌝ }
-    ensures { λ _. ⌜ now (flow .exit) ≡ bytesOfAll 4 (take m (now (flows .entry))) ++ drop (4 * m) (now (flow .entry)) ⌝ }
+    ensures { λ _. ⌜ after flow ≡ bytesOfAll 4 (take m (before flows)) ++ drop (4 * m) (before flow) ⌝ }
 {
     codec::put_all32(flow, &flows[..m]);
 }
@@ -62,7 +62,7 @@ fn write_flows(flow: &mut [u8], flows: &[u32], m: usize)
 // Writes n marks.
 fn write_marks(side: &mut [u8], marks: &[u8], n: u32)
     requires { ⌜ (n ≤ length (now marks)) × (n ≤ length (now side)) ⌝ }
-    ensures { λ _. ⌜ now (side .exit) ≡ take n (now (marks .entry)) ++ drop n (now (side .entry)) ⌝ }
+    ensures { λ _. ⌜ after side ≡ take n (before marks) ++ drop n (before side) ⌝ }
 {
     let nodes = n as usize;
     rows::store_marks(side, &marks[..nodes]);
@@ -71,7 +71,7 @@ fn write_marks(side: &mut [u8], marks: &[u8], n: u32)
 // Writes the seven numbers of a result.
 fn write_result(result: &mut [u8], a: Answer)
     requires { ⌜ 56 ≤ length (now result) ⌝ }
-    ensures { λ _. ⌜ now (result .exit) ≡ bytesOfAll 8 (seven a) ++ drop 56 (now (result .entry)) ⌝ }
+    ensures { λ _. ⌜ after result ≡ bytesOfAll 8 (seven a) ++ drop 56 (before result) ⌝ }
 {
     let numbers = [
         rows::wide(a.stamp),
@@ -98,8 +98,8 @@ fn serve_accepted(
     side: &mut [u8],
     result: &mut [u8],
 ) -> u64
-    requires { ⌜ servingVerdict (tableOf n s t (now tails) (now heads) (now capacities)) (now flow) (now side) (now result) ≡ Fine ⌝ }
-    ensures { λ r. ⌜ served r (now (flow .exit)) (now (side .exit)) (now (result .exit)) ≡ serving (tableOf n s t (now (tails .entry)) (now (heads .entry)) (now (capacities .entry))) stamp (now (flow .entry)) (now (side .entry)) (now (result .entry)) ⌝ }
+    requires { ⌜ servingVerdict (givenTable n s t tails heads capacities) (now flow) (now side) (now result) ≡ Fine ⌝ }
+    ensures { λ r. ⌜ servedIn r flow side result ≡ serving (lentTable n s t tails heads capacities) stamp (before flow) (before side) (before result) ⌝ }
 {
     let mut flows = [0u32; 4096];
     let mut marks = [0u8; 512];
@@ -135,7 +135,7 @@ fn serve_rows(
     side: &mut [u8],
     result: &mut [u8],
 ) -> u64
-    ensures { λ r. ⌜ served r (now (flow .exit)) (now (side .exit)) (now (result .exit)) ≡ serving (tableOf n s t (now (tails .entry)) (now (heads .entry)) (now (capacities .entry))) stamp (now (flow .entry)) (now (side .entry)) (now (result .entry)) ⌝ }
+    ensures { λ r. ⌜ servedIn r flow side result ≡ serving (lentTable n s t tails heads capacities) stamp (before flow) (before side) (before result) ⌝ }
 {
     let room = has_byte_room(
         56,
@@ -177,7 +177,8 @@ fn serve_first(
     result: &mut [u8],
 ) -> u64
     requires { ⌜ (m ≤ length (now tails)) × (m ≤ length (now heads)) × (m ≤ length (now capacities)) ⌝ }
-    ensures { λ r. ⌜ served r (now (flow .exit)) (now (side .exit)) (now (result .exit)) ≡ serving (tableOf n s t (take m (now (tails .entry))) (take m (now (heads .entry))) (take m (now (capacities .entry)))) stamp (now (flow .entry)) (now (side .entry)) (now (result .entry)) ⌝ }
+    ensures { λ r. ⌜ (let table = tableOf n s t (take m (before tails)) (take m (before heads)) (take m (before capacities)) in
+        servedIn r flow side result ≡ serving table stamp (before flow) (before side) (before result)) ⌝ }
 {
     serve_rows(
         n,
@@ -205,7 +206,7 @@ fn serve_arcs(
     result: &mut [u8],
 ) -> u64
     requires { ⌜ sizesOf n ((length (now arcs) + 11) / 12) (length (now arcs) / 12) (length (now arcs) / 12) s t ≡ Fine ⌝ }
-    ensures { λ r. ⌜ served r (now (flow .exit)) (now (side .exit)) (now (result .exit)) ≡ serving (arcTable n s t (now (arcs .entry))) stamp (now (flow .entry)) (now (side .entry)) (now (result .entry)) ⌝ }
+    ensures { λ r. ⌜ servedIn r flow side result ≡ serving (arcTable n s t (before arcs)) stamp (before flow) (before side) (before result) ⌝ }
 {
     let m = arcs.len() / 12;
     let mut tails = [0u32; 4096];
@@ -240,7 +241,7 @@ pub fn solve_bytes(
     side: &mut [u8],
     result: &mut [u8],
 ) -> u64
-    ensures { λ r. ⌜ served r (now (flow .exit)) (now (side .exit)) (now (result .exit)) ≡ serving (arcTable n s t (now (arcs .entry))) stamp (now (flow .entry)) (now (side .entry)) (now (result .entry)) ⌝ }
+    ensures { λ r. ⌜ servedIn r flow side result ≡ serving (arcTable n s t (before arcs)) stamp (before flow) (before side) (before result) ⌝ }
 {
     let m = arcs.len() / 12;
     match table::sizes(n, (arcs.len() + 11) / 12, m, m, s, t) {
@@ -254,7 +255,7 @@ pub fn solve_bytes(
 // Writes the three numbers of a reading.
 fn write_reading(result: &mut [u8], r: Reading)
     requires { ⌜ 24 ≤ length (now result) ⌝ }
-    ensures { λ _. ⌜ now (result .exit) ≡ bytesOfAll 8 (three r) ++ drop 24 (now (result .entry)) ⌝ }
+    ensures { λ _. ⌜ after result ≡ bytesOfAll 8 (three r) ++ drop 24 (before result) ⌝ }
 {
     let numbers = [
         rows::wide(r.flow),
@@ -267,7 +268,7 @@ fn write_reading(result: &mut [u8], r: Reading)
 // What was read, as bytes.
 fn tell(r: Reading, result: &mut [u8]) -> u64
     requires { ⌜ 24 ≤ length (now result) ⌝ }
-    ensures { λ x. ⌜ told x (now (result .exit)) ≡ toldAs r (now (result .entry)) ⌝ }
+    ensures { λ x. ⌜ told x (after result) ≡ toldAs r (before result) ⌝ }
 {
     if r.refusal != 0 {
         return returned(r.refusal, r.place);
@@ -292,8 +293,10 @@ fn read_first(
     side: &[u8],
     place: u32,
 ) -> Reading
-    requires { ⌜ (m ≤ length (now tails)) × (m ≤ length (now heads)) × (m ≤ length (now capacities)) × (m ≤ length (now minimums)) × (m ≤ length (now flow)) ⌝ }
-    ensures { λ r. ⌜ r ≡ reading (boundedOf n s t (take m (now (tails .entry))) (take m (now (heads .entry))) (take m (now (capacities .entry))) (take m (now (minimums .entry)))) stamp answer (take m (now (flow .entry))) (now (side .entry)) place ⌝ }
+    requires { ⌜ (m ≤ length (now tails)) × (m ≤ length (now heads)) × (m ≤ length (now capacities)) × (m ≤ length (now minimums))
+        × (m ≤ length (now flow)) ⌝ }
+    ensures { λ r. ⌜ (let table = boundedOf n s t (take m (before tails)) (take m (before heads)) (take m (before capacities)) (take m (before minimums)) in
+        r ≡ reading table stamp answer (take m (before flow)) (before side) place) ⌝ }
 {
     planner::read_place(
         n,
@@ -325,7 +328,8 @@ fn read_arcs(
 ) -> Reading
     requires { ⌜ sizesOf n ((length (now arcs) + 11) / 12) (length (now arcs) / 12) (length (now arcs) / 12) s t ≡ Fine ⌝ }
     requires { ⌜ 4 * (length (now arcs) / 12) ≤ length (now flow) ⌝ }
-    ensures { λ r. ⌜ r ≡ reading (withoutMinimums (arcTable n s t (now (arcs .entry)))) stamp answer (flowRow (length (now (arcs .entry)) / 12) (now (flow .entry))) (now (side .entry)) place ⌝ }
+    ensures { λ r. ⌜ r
+        ≡ reading (withoutMinimums (arcTable n s t (before arcs))) stamp answer (flowRow (length (before arcs) / 12) (before flow)) (before side) place ⌝ }
 {
     let m = arcs.len() / 12;
     let mut tails = [0u32; 4096];
@@ -368,7 +372,7 @@ fn tell_arcs(
     result: &mut [u8],
 ) -> u64
     requires { ⌜ sizesOf n ((length (now arcs) + 11) / 12) (length (now arcs) / 12) (length (now arcs) / 12) s t ≡ Fine ⌝ }
-    ensures { λ r. ⌜ told r (now (result .exit)) ≡ telling (arcTable n s t (now (arcs .entry))) stamp answer (now (flow .entry)) (now (side .entry)) place (now (result .entry)) ⌝ }
+    ensures { λ r. ⌜ told r (after result) ≡ telling (arcTable n s t (before arcs)) stamp answer (before flow) (before side) place (before result) ⌝ }
 {
     let m = arcs.len() / 12;
     if !has_byte_room(24, n, m, flow.len(), side.len(), result.len()) {
@@ -391,7 +395,7 @@ pub fn read_bytes(
     place: u32,
     result: &mut [u8],
 ) -> u64
-    ensures { λ r. ⌜ told r (now (result .exit)) ≡ telling (arcTable n s t (now (arcs .entry))) stamp answer (now (flow .entry)) (now (side .entry)) place (now (result .entry)) ⌝ }
+    ensures { λ r. ⌜ told r (after result) ≡ telling (arcTable n s t (before arcs)) stamp answer (before flow) (before side) place (before result) ⌝ }
 {
     let m = arcs.len() / 12;
     match table::sizes(n, (arcs.len() + 11) / 12, m, m, s, t) {

@@ -25,14 +25,16 @@ use Rattle.shortest.proofs.Settling.{FlowRow, settled-row, settled-long, settle
 use Rattle.start.specs.Sums.{sumAt}
 use Rattle.arcs.specs.Ends.{WideEnds}
 use Rattle.arcs.specs.Work.{workEnd}
-use Rattle.bounded.specs.Bounded.{boundedNetwork, boundedSide, valueOf, GreatestBounded}
 use Rattle.minimums.specs.BoundedTable.{BoundedTable, boundedOf, AcceptedBounded, BoundedRows}
+use Rattle.joining.specs.Joining.{Small}
+use Rattle.feasible.specs.Flows.{boundedNetwork}
+use Rattle.feasible.proofs.Accepting.{bounded-sound}
+use Rattle.feasible.proofs.Networks.{held-enters, held-leaves}
+use Rattle.bounded.specs.Bounded.{boundedSide, valueOf, GreatestBounded}
 use Rattle.bounded.specs.Solving.{Solvable, Above, Holds}
-use Rattle.bounded.specs.Joining.{Small}
-use Rattle.bounded.proofs.Networks.{held-enters, held-leaves}
 use Rattle.bounded.proofs.Signed.{reads-back}
 use Rattle.bounded.proofs.Sides.{Alike, side-same}
-use Rattle.bounded.proofs.Largest.{bounded-sound, greatest-bounded}
+use Rattle.bounded.proofs.Largest.{greatest-bounded}
 
 -- What a row holds at one of its first places.
 at-front : (f : ℕ → ℕ) (m k : ℕ) (row rest : List ℕ) → row ≡ byPlace f m ++ rest → k < m → atPlace row k ≡ f k

@@ -7,48 +7,17 @@ use native.Mathlib.Omega.{arith}
 use lib.IntN.{ℤ, natAbs}
 use lib.Signed.{_≤ℤ_}
 use Rattle.rows.specs.Row.{atPlace}
-use Rattle.rows.specs.Sum.{sum}
 use Rattle.network.specs.Network.{Network, Flow, Cut, Least, Reached, Answer, inflow, outflow, leaving, entering}
 use Rattle.network.proofs.Notions.{Sound}
 use Rattle.network.proofs.Cuts.{reached-answer}
-use Rattle.table.specs.Table.{arcs, capacity}
-use Rattle.table.specs.Accepted.{Accepted}
-use Rattle.run.proofs.Whole.{capacity-in-all}
 use Rattle.reach.specs.Side.{marked, sideFrom}
 use Rattle.reach.proofs.Side.{side-reached}
 use Rattle.joined.proofs.Joining.{inflow-most, outflow-most}
-use Rattle.bounded.specs.Bounded.{boundedNetwork, valueOf, cutCapacity, GreatestBounded}
 use Rattle.minimums.specs.BoundedTable.{BoundedTable, AcceptedBounded}
+use Rattle.feasible.specs.Flows.{boundedNetwork}
+use Rattle.feasible.proofs.Accepting.{bounded-sound, all-capacities}
+use Rattle.bounded.specs.Bounded.{valueOf, cutCapacity, GreatestBounded}
 use Rattle.bounded.proofs.Signed.{less, same, same-only, size}
-
--- An accepted bounded table makes a sound network.
-pub bounded-sound : (b : BoundedTable) → AcceptedBounded b → Sound (boundedNetwork b)
-bounded-sound b a =
-    let long = a .rows .arcs .capacities-long in
-    record {
-      source = a .source;
-      sink = a .sink;
-      apart = a .apart;
-      tails = λ k l. a .rows .arcs .ends .tail-node k (omega arith);
-      heads = λ k l. a .rows .arcs .ends .head-node k (omega arith);
-      loopless = λ k l. a .rows .arcs .ends .no-loop k (omega arith);
-    }
-
--- Its table is accepted by itself.
-pub table-accepted : (b : BoundedTable) → AcceptedBounded b → Accepted (b .table)
-table-accepted b a =
-    let differ = a .apart in
-    record {
-      two = omega (arith, a .source, a .sink);
-      source = a .source;
-      sink = a .sink;
-      apart = a .apart;
-      rows = a .rows .arcs;
-    }
-
--- All capacities together.
-pub all-capacities : (b : BoundedTable) → AcceptedBounded b → sum (arcs (b .table)) (capacity (b .table)) ≤ 4096000000
-all-capacities b a = capacity-in-all (b .table) (table-accepted b a)
 
 module _ (b : BoundedTable) (accepted : AcceptedBounded b) (flow side : List ℕ) (value : ℤ) where
   abbrev N : Network

@@ -1,7 +1,7 @@
 -- Results that meet the promise are the same in all but the flow: which greatest flow comes back is free.
-use Prim.Native.Nat.{ℕ, _+_, _≤_}
+use Prim.Native.Nat.{ℕ}
 use mathlib.Core.Path.{_≡_, refl, ap, sym, subst, _∙_}
-use mathlib.Core.Bool.{true, true≢false}
+use mathlib.Core.Bool.{true≢false}
 use mathlib.Core.List.{List, _++_}
 use native.Mathlib.Omega.{arith}
 use lib.IntN.{ℤ}
@@ -15,12 +15,13 @@ use Rattle.network.proofs.Notions.{Sound}
 use Rattle.table.specs.Table.{arcs}
 use Rattle.reach.specs.Side.{marked}
 use Rattle.reach.proofs.Side.{same-reached, length-of-side}
-use Rattle.bounded.specs.Bounded.{boundedNetwork, boundedSide, valueOf, GreatestBounded}
 use Rattle.minimums.specs.BoundedTable.{BoundedTable, AcceptedBounded}
+use Rattle.feasible.specs.Flows.{boundedNetwork}
+use Rattle.feasible.proofs.Accepting.{bounded-sound}
+use Rattle.bounded.specs.Bounded.{boundedSide, valueOf, GreatestBounded}
 use Rattle.bounded.specs.Solving.{Leaves}
 use Rattle.bounded.specs.declared.Bounded.{Bounded}
 use Rattle.bounded.specs.declared.Bounded.the-variants.{Impossible, Value}
-use Rattle.bounded.proofs.Largest.{bounded-sound}
 use Rattle.bounded.proofs.Signed.{same, order-only}
 
 module _ (b : BoundedTable) {flow side flow′ side′ : List ℕ} {value value′ : ℤ}

@@ -1,30 +1,16 @@
--- Document 02, CR 11: tables whose arcs have a least flow, their flows, the signed value and a cut's capacity, and a flow of greatest value.
-use Prim.Native.Nat.{ℕ, _≤_, _<_}
+-- Document 02, CR 11: the signed value of a flow and a cut's capacity, and a flow of greatest value.
+use Prim.Native.Nat.{ℕ, _≤_}
 use mathlib.Core.Path.{_≡_}
 use mathlib.Core.Bool.{Bool, true}
 use mathlib.Core.List.{List}
-use lib.ListN.{length}
 use lib.IntN.{ℤ, pos, _-ℤ_, natAbs}
 use lib.Signed.{_≤ℤ_}
-use Rattle.rows.specs.Row.{Node, atPlace}
-use Rattle.network.specs.Network.{Network, Flow, Cut, Reached, inflow, outflow, leaving, entering}
+use Rattle.rows.specs.Row.{atPlace}
+use Rattle.network.specs.Network.{Cut, Reached, inflow, outflow, leaving, entering}
 use Rattle.table.specs.Table.{capacity}
 use Rattle.minimums.specs.BoundedTable.{BoundedTable, minimum}
 use Rattle.reach.specs.Side.{marked, sideFrom}
-use Rattle.shortest.specs.Augment.{boundNetwork}
-
--- The bounded table as a network. The residual from head to tail is flow less minimum.
-abbrev pub boundedNetwork : BoundedTable → Network
-boundedNetwork b =
-    boundNetwork (b .table .nodes) (b .table .source) (b .table .sink) (b .table .tails) (b .table .heads) (b .table .capacities) (b .minimums)
-
--- A flow that keeps every arc between its two numbers; what enters a node other than source and sink leaves it.
-abbrev pub BoundedFlow : BoundedTable → (ℕ → ℕ) → Type 0
-BoundedFlow b flow = Flow (boundedNetwork b) flow
-
--- No flow keeps all arcs between their numbers.
-abbrev pub NoFlow : BoundedTable → Type 0
-NoFlow b = (flow : ℕ → ℕ) → BoundedFlow b flow → ⊥
+use Rattle.feasible.specs.Flows.{boundedNetwork, BoundedFlow}
 
 -- The value of a flow, signed: what leaves the source less what enters it.
 abbrev pub valueOf : BoundedTable → (ℕ → ℕ) → ℤ

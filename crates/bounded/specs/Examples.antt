@@ -1,13 +1,12 @@
--- Worked examples: values below 0 and sides by computation, and a table that no flow keeps.
+-- Worked examples: values below 0 and sides by computation.
 use mathlib.Core.Path.{_≡_, refl}
 use mathlib.Core.List.{[], _∷_}
-use native.Mathlib.Omega.{arith}
 use lib.IntN.{negsuc}
 use Rattle.rows.specs.Row.{atPlace}
 use Rattle.rows.specs.Sum.{sum}
 use Rattle.network.specs.Network.{inflow, outflow, leaving, entering}
 use Rattle.reach.specs.Side.{marked, sideFrom}
-use Rattle.bounded.specs.Bounded.{valueOf, cutCapacity, boundedSide, NoFlow}
+use Rattle.bounded.specs.Bounded.{valueOf, cutCapacity, boundedSide}
 use Rattle.minimums.specs.BoundedTable.{BoundedTable, boundedOf}
 
 -- 1>2 of 4, 1>3 of 2, 2>3 of 1 to 4, 3>4 of 1 and 4>1 of 2 to 3, source 1 and sink 4: two come back at least, and one goes out.
@@ -47,18 +46,3 @@ forced-side = refl
 forced-cut : cutCapacity forced (marked (1 ∷ 0 ∷ 0 ∷ [])) ≡ negsuc 1
 unfolding forced leaving entering sum
 forced-cut = refl
-
--- 1>2 of 2 to 3 and 2>3 of 1: what has to enter node 2 can't leave it.
-choked : BoundedTable
-choked = boundedOf 3 1 3 (1 ∷ 2 ∷ []) (2 ∷ 3 ∷ []) (3 ∷ 1 ∷ []) (2 ∷ 0 ∷ [])
-
--- No flow keeps both arcs between their numbers.
-choked-none : NoFlow choked
-unfolding choked inflow outflow sum
-choked-none flow keeps =
-    omega (
-      arith,
-      keeps .low 0 (omega arith),
-      keeps .high 1 (omega arith),
-      keeps .kept 2 (record { node = (omega arith, omega arith); not-source = λ e. omega arith; not-sink = λ e. omega arith }),
-    )

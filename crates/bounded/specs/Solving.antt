@@ -1,16 +1,14 @@
 -- Document 02, CR 11: what solving a table with minimums answers, and what the lent rows hold afterwards.
 use Prim.Native.Nat.{ℕ, _+_, _-_, _≤_, _<_}
 use mathlib.Core.Path.{_≡_}
-use mathlib.Core.Bool.{Bool, true, false}
 use mathlib.Core.List.{List, _++_}
 use lib.ListN.{length, take, drop, replicate}
-use Rattle.rows.specs.Row.{atPlace, byPlace}
+use Rattle.rows.specs.Row.{atPlace}
 use Rattle.arcs.specs.Work.{workEnd}
-use Rattle.joined.specs.Joined.{Loose}
 use Rattle.table.specs.Table.{arcs, capacity}
-use Rattle.bounded.specs.Bounded.{boundedNetwork, BoundedFlow, NoFlow, boundedSide, GreatestBounded}
-use Rattle.minimums.specs.BoundedTable.{BoundedTable, boundedOf, AcceptedBounded, minimum}
-use Rattle.bounded.specs.Joining.{joinedArcs, joinedFlow}
+use Rattle.minimums.specs.BoundedTable.{BoundedTable, AcceptedBounded, minimum}
+use Rattle.feasible.specs.Flows.{BoundedFlow, NoFlow}
+use Rattle.bounded.specs.Bounded.{boundedSide, GreatestBounded}
 use Rattle.bounded.specs.declared.Bounded.{Bounded}
 use Rattle.bounded.specs.declared.Bounded.the-variants.{Impossible, Value}
 
@@ -19,17 +17,6 @@ pub record Solvable (b : BoundedTable) (flow side : List ℕ) : Type 0 where
   pub accepted : AcceptedBounded b
   pub flow-long : arcs (b .table) ≤ length flow
   pub side-long : b .table .nodes ≤ length side
-
--- A flow to start from: within capacities and conserved; it need not keep the minimums.
-pub record First (b : BoundedTable) (first : List ℕ) : Type 0 where
-  pub long : arcs (b .table) ≤ length first
-  pub loose : Loose (boundedNetwork b) (atPlace first)
-
--- What the joined network carries of such a flow.
-pub record Started (n s t : ℕ) (tails heads capacities minimums more : List ℕ) : Type 0 where
-  pub first : List ℕ
-  pub begins : First (boundedOf n s t tails heads capacities minimums) first
-  pub is : more ≡ byPlace (joinedFlow n s tails heads minimums first (length capacities)) (joinedArcs n (length capacities))
 
 -- Rows of the call's own, with a place for each arc, or for each of the joined network's; `none` is empty, and `lists` has room for the lists of either.
 pub record OwnRows (m size : ℕ) (from to limits none met more lists : List ℕ) : Type 0 where
@@ -40,11 +27,6 @@ pub record OwnRows (m size : ℕ) (from to limits none met more lists : List ℕ
   pub met-long : length met ≡ m
   pub more-long : length more ≡ size
   pub lists-long : workEnd 514 5122 ≤ length lists
-
--- Whether some flow keeps all arcs between their numbers; where one does, what a row holds above the minimums is such a flow.
-pub record Feasible (b : BoundedTable) (more : List ℕ) (yes : Bool) : Type 0 where
-  pub keeps : yes ≡ true → BoundedFlow b (λ k. atPlace more k + minimum b k)
-  pub none : yes ≡ false → NoFlow b
 
 -- Two rows above the minimums: what the capacities leave, and a flow that keeps all arcs between their numbers.
 pub record Above (b : BoundedTable) (spare more : List ℕ) : Type 0 where

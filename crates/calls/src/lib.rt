@@ -1,25 +1,26 @@
 // The front door's calls for a program in C or Rust to link, as the host's comparisons do: the crates' own, under names of their own.
 ghost use mathlib.Core.Path.{_≡_};
-ghost use Rattle.table.specs.Table.{tableOf};
-ghost use Rattle.minimums.specs.BoundedTable.{boundedOf};
-ghost use Rattle.solver.specs.Solving.{left, Meets};
-ghost use Rattle.planner.specs.Solving.{signedLeft, Solves, SolvesWell};
+ghost use Rattle.rows.specs.Lent.{before, after};
+ghost use Rattle.table.specs.Table.{lentTable};
+ghost use Rattle.minimums.specs.BoundedTable.{lentBounded};
+ghost use Rattle.solver.specs.Solving.{Meets, leftIn};
+ghost use Rattle.planner.specs.Solving.{Solves, SolvesWell, signedLeftIn};
 ghost use Rattle.planner.specs.Reading.{reading};
 ghost use Rattle.opening.specs.Maximum.{MaximumFlow};
 ghost use Rattle.opening.specs.Opening.{opened, opening, Reopens};
 ghost use Rattle.solution.specs.Writing.{writing, left as leftWritten};
 ghost use Rattle.solution.specs.Reading.{reading as readingBack, left as leftRead};
 ghost use Rattle.plan.specs.Checking.{Checks};
-ghost use Rattle.chains.specs.Listing.{shownBy, listing, Shows};
+ghost use Rattle.chains.specs.Listing.{listing, Shows, shownIn};
 ghost use Rattle.asking.specs.Asking.{roomLeft, asking, Says};
 ghost use Rattle.openings.specs.Helping.{HelpsExactly};
-ghost use Rattle.openings.specs.Finding.{leftOpenings, finding};
+ghost use Rattle.openings.specs.Finding.{finding, leftOpeningsIn};
 ghost use Rattle.shorter.specs.Shorter.{shorterOf, leftPart, copied};
 ghost use lib.ListN.{length, take};
 ghost use Rattle.run.specs.Demands.{Best};
-ghost use Rattle.keeping.specs.SmallRows.{smallRows};
+ghost use Rattle.keeping.specs.SmallRows.{lentSmall};
 ghost use Rattle.smaller.specs.Reducing.{leftReduced, reducing};
-ghost use Rattle.days.specs.Days.{daysOf};
+ghost use Rattle.days.specs.Days.{lentDays};
 ghost use Rattle.days.specs.Month.{monthLeft, month};
 ghost use Rattle.days.specs.Promises.{EachDay};
 use asking::Room;
@@ -50,8 +51,9 @@ pub extern "C" fn jorrabide_solve(
     side: &mut [u8],
     work: &mut [u32],
 ) -> Signed
-    ensures exact { λ r. ⌜ Solves (boundedOf n s t (now (tails .entry)) (now (heads .entry)) (now (capacities .entry)) (now (minimums .entry))) stamp (now (flow .entry)) (now (side .entry)) (now (work .entry)) (signedLeft r (now (flow .exit)) (now (side .exit)) (now (work .exit))) ⌝ }
-    ensures best { λ r. ⌜ (r .refusal ≡ 0 → SolvesWell (boundedOf n s t (now (tails .entry)) (now (heads .entry)) (now (capacities .entry)) (now (minimums .entry))) (signedLeft r (now (flow .exit)) (now (side .exit)) (now (work .exit)))) ⌝ }
+    ensures exact { λ r. ⌜ (let table = lentBounded n s t tails heads capacities minimums in
+        Solves table stamp (before flow) (before side) (before work) (signedLeftIn r flow side work)) ⌝ }
+    ensures best { λ r. ⌜ (r .refusal ≡ 0 → SolvesWell (lentBounded n s t tails heads capacities minimums) (signedLeftIn r flow side work)) ⌝ }
 {
     planner::solve(
         n,
@@ -84,7 +86,7 @@ pub extern "C" fn jorrabide_read_place(
     side: &[u8],
     place: u32,
 ) -> Reading
-    ensures { λ r. ⌜ r ≡ reading (boundedOf n s t (now (tails .entry)) (now (heads .entry)) (now (capacities .entry)) (now (minimums .entry))) stamp answer (now (flow .entry)) (now (side .entry)) place ⌝ }
+    ensures { λ r. ⌜ r ≡ reading (lentBounded n s t tails heads capacities minimums) stamp answer (before flow) (before side) place ⌝ }
 {
     planner::read_place(
         n,
@@ -119,9 +121,11 @@ pub extern "C" fn jorrabide_open(
     side: &mut [u8],
     work: &mut [u32],
 ) -> Answer
-    ensures exact { λ r. ⌜ left r (now (flow .exit)) (now (side .exit)) (now (work .exit)) ≡ opening (boundedOf n s t (now (tails .entry)) (now (heads .entry)) (now (capacities .entry)) (now (minimums .entry))) stamp place capacity (now (flow .entry)) (now (side .entry)) (now (work .entry)) ⌝ }
-    ensures best { λ r. ⌜ (r .refusal ≡ 0 → Reopens (tableOf n s t (now (tails .entry)) (now (heads .entry)) (now (capacities .entry))) (opened (tableOf n s t (now (tails .entry)) (now (heads .entry)) (now (capacities .entry))) place capacity) (now (flow .entry)) (left r (now (flow .exit)) (now (side .exit)) (now (work .exit)))) ⌝ }
-    ensures notmax { λ r. ⌜ (r .refusal ≡ 23 → MaximumFlow (tableOf n s t (now (tails .entry)) (now (heads .entry)) (now (capacities .entry))) (now (flow .entry)) → ⊥) ⌝ }
+    ensures exact { λ r. ⌜ (let table = lentBounded n s t tails heads capacities minimums in
+        leftIn r flow side work ≡ opening table stamp place capacity (before flow) (before side) (before work)) ⌝ }
+    ensures best { λ r. ⌜ (let table = lentTable n s t tails heads capacities in
+        r .refusal ≡ 0 → Reopens table (opened table place capacity) (before flow) (leftIn r flow side work)) ⌝ }
+    ensures notmax { λ r. ⌜ (r .refusal ≡ 23 → MaximumFlow (lentTable n s t tails heads capacities) (before flow) → ⊥) ⌝ }
 {
     opening::open(
         n,
@@ -154,7 +158,7 @@ pub extern "C" fn jorrabide_write_solution(
     flow: &[u32],
     text: &mut [u8],
 ) -> Written
-    ensures { λ r. ⌜ leftWritten r (now (text .exit)) ≡ writing (boundedOf n s t (now (tails .entry)) (now (heads .entry)) (now (capacities .entry)) (now (minimums .entry))) value (now (flow .entry)) (now (text .entry)) ⌝ }
+    ensures { λ r. ⌜ leftWritten r (after text) ≡ writing (lentBounded n s t tails heads capacities minimums) value (before flow) (before text) ⌝ }
 {
     solution::write(
         n,
@@ -183,7 +187,7 @@ pub extern "C" fn jorrabide_read_solution(
     text: &[u8],
     flow: &mut [u32],
 ) -> ReadBack
-    ensures { λ r. ⌜ leftRead r (now (flow .exit)) ≡ readingBack (boundedOf n s t (now (tails .entry)) (now (heads .entry)) (now (capacities .entry)) (now (minimums .entry))) (now (text .entry)) (now (flow .entry)) ⌝ }
+    ensures { λ r. ⌜ leftRead r (after flow) ≡ readingBack (lentBounded n s t tails heads capacities minimums) (before text) (before flow) ⌝ }
 {
     solution::read(n, s, t, tails, heads, capacities, minimums, text, flow)
 }
@@ -201,7 +205,7 @@ pub extern "C" fn jorrabide_check_plan(
     text: &[u8],
     side: &[u8],
 ) -> Checked
-    ensures { λ r. ⌜ Checks (boundedOf n s t (now (tails .entry)) (now (heads .entry)) (now (capacities .entry)) (now (minimums .entry))) (now (text .entry)) (now (side .entry)) r ⌝ }
+    ensures { λ r. ⌜ Checks (lentBounded n s t tails heads capacities minimums) (before text) (before side) r ⌝ }
 {
     plan::check_plan(n, s, t, tails, heads, capacities, minimums, text, side)
 }
@@ -222,8 +226,9 @@ pub extern "C" fn jorrabide_list_chains(
     work: &mut [u32],
     list: &mut [u32],
 ) -> Listed
-    ensures exact { λ r. ⌜ shownBy r (now (flow .exit)) (now (side .exit)) (now (work .exit)) (now (list .exit)) ≡ listing (boundedOf n s t (now (tails .entry)) (now (heads .entry)) (now (capacities .entry)) (now (minimums .entry))) stamp (now (flow .entry)) (now (side .entry)) (now (work .entry)) (now (list .entry)) ⌝ }
-    ensures shows { λ r. ⌜ (r .answer .refusal ≡ 0 → Shows (tableOf n s t (now (tails .entry)) (now (heads .entry)) (now (capacities .entry))) (shownBy r (now (flow .exit)) (now (side .exit)) (now (work .exit)) (now (list .exit)))) ⌝ }
+    ensures exact { λ r. ⌜ (let table = lentBounded n s t tails heads capacities minimums in
+        shownIn r flow side work list ≡ listing table stamp (before flow) (before side) (before work) (before list)) ⌝ }
+    ensures shows { λ r. ⌜ (r .answer .refusal ≡ 0 → Shows (lentTable n s t tails heads capacities) (shownIn r flow side work list)) ⌝ }
 {
     chains::list_chains(
         n,
@@ -255,8 +260,8 @@ pub extern "C" fn jorrabide_has_room_for(
     q: u64,
     work: &mut [u32],
 ) -> Room
-    ensures exact { λ r. ⌜ roomLeft r (now (work .exit)) ≡ asking (boundedOf n s t (now (tails .entry)) (now (heads .entry)) (now (capacities .entry)) (now (minimums .entry))) stamp q (now (work .entry)) ⌝ }
-    ensures says { λ r. ⌜ (r .refusal ≡ 0 → Says (tableOf n s t (now (tails .entry)) (now (heads .entry)) (now (capacities .entry))) q r) ⌝ }
+    ensures exact { λ r. ⌜ roomLeft r (after work) ≡ asking (lentBounded n s t tails heads capacities minimums) stamp q (before work) ⌝ }
+    ensures says { λ r. ⌜ (r .refusal ≡ 0 → Says (lentTable n s t tails heads capacities) q r) ⌝ }
 {
     room::has_room_for(n, s, t, stamp, tails, heads, capacities, minimums, q, work)
 }
@@ -279,8 +284,11 @@ pub extern "C" fn jorrabide_find_openings(
     sinks: &mut [u32],
     places: &mut [u32],
 ) -> Openings
-    ensures exact { λ r. ⌜ leftOpenings r (now (flow .exit)) (now (side .exit)) (now (work .exit)) (now (sources .exit)) (now (sinks .exit)) (now (places .exit)) ≡ finding (boundedOf n s t (now (tails .entry)) (now (heads .entry)) (now (capacities .entry)) (now (minimums .entry))) stamp (now (flow .entry)) (now (side .entry)) (now (work .entry)) (now (sources .entry)) (now (sinks .entry)) (now (places .entry)) ⌝ }
-    ensures best { λ r. ⌜ (r .answer .refusal ≡ 0 → Meets (tableOf n s t (now (tails .entry)) (now (heads .entry)) (now (capacities .entry))) (left (r .answer) (now (flow .exit)) (now (side .exit)) (now (work .exit))) × HelpsExactly (tableOf n s t (now (tails .entry)) (now (heads .entry)) (now (capacities .entry)))) ⌝ }
+    ensures exact { λ r. ⌜ (let table = lentBounded n s t tails heads capacities minimums in
+        leftOpeningsIn r flow side work sources sinks places
+        ≡ finding table stamp (before flow) (before side) (before work) (before sources) (before sinks) (before places)) ⌝ }
+    ensures best { λ r. ⌜ (let table = lentTable n s t tails heads capacities in
+        r .answer .refusal ≡ 0 → Meets table (leftIn (r .answer) flow side work) × HelpsExactly table) ⌝ }
 {
     openings::find_openings(
         n,
@@ -309,7 +317,7 @@ pub extern "C" fn jorrabide_shorter<'a>(
     in_second: u32,
     part: &mut [u32],
 ) -> Part
-    ensures { λ r. ⌜ leftPart r (now (part .exit)) ≡ copied (shorterOf (now (first .entry)) (now (second .entry)) in_first in_second) (now (part .entry)) ⌝ }
+    ensures { λ r. ⌜ leftPart r (after part) ≡ copied (shorterOf (before first) (before second) in_first in_second) (before part) ⌝ }
 {
     shorter::copy_shorter(first, second, in_first, in_second, part)
 }
@@ -334,8 +342,12 @@ pub extern "C" fn jorrabide_reduce(
     nodes_from: &mut [u32],
     arcs_from: &mut [u32],
 ) -> Reduced
-    ensures exact { λ r. ⌜ leftReduced r (now (flow .exit)) (now (side .exit)) (now (work .exit)) (smallRows (now («small_tails» .exit)) (now («small_heads» .exit)) (now («small_capacities» .exit)) (now («nodes_from» .exit)) (now («arcs_from» .exit))) ≡ reducing (boundedOf n s t (now (tails .entry)) (now (heads .entry)) (now (capacities .entry)) (now (minimums .entry))) stamp (now (flow .entry)) (now (side .entry)) (now (work .entry)) (smallRows (now («small_tails» .entry)) (now («small_heads» .entry)) (now («small_capacities» .entry)) (now («nodes_from» .entry)) (now («arcs_from» .entry))) ⌝ }
-    ensures best { λ r. ⌜ (r .answer .refusal ≡ 0 → Best (tableOf n s t (now (tails .entry)) (now (heads .entry)) (now (capacities .entry))) (take (length (now (capacities .entry))) (now (flow .exit))) (take n (now (side .exit))) (r .answer .value)) ⌝ }
+    ensures exact { λ r. ⌜ (let small = lentSmall «small_tails» «small_heads» «small_capacities» «nodes_from» «arcs_from» in
+        let table = lentBounded n s t tails heads capacities minimums in
+        leftReduced r (after flow) (after side) (after work) (small .exit)
+        ≡ reducing table stamp (before flow) (before side) (before work) (small .entry)) ⌝ }
+    ensures best { λ r. ⌜ (let table = lentTable n s t tails heads capacities in
+        r .answer .refusal ≡ 0 → Best table (take (length (before capacities)) (after flow)) (take n (after side)) (r .answer .value)) ⌝ }
 {
     smaller::reduce(
         n,
@@ -374,8 +386,10 @@ pub extern "C" fn jorrabide_solve_month(
     work: &mut [u32],
     answers: &mut [u64],
 ) -> Month
-    ensures exact { λ r. ⌜ monthLeft r (now (flow .exit)) (now (side .exit)) (now (work .exit)) (now (answers .exit)) ≡ month (daysOf (now (starts .entry)) (now (nodes .entry)) (now (sources .entry)) (now (sinks .entry)) (now (stamps .entry)) (now (tails .entry)) (now (heads .entry)) (now (capacities .entry)) (now (minimums .entry))) (now (flow .entry)) (now (side .entry)) (now (work .entry)) (now (answers .entry)) ⌝ }
-    ensures each { λ r. ⌜ (r .refusal ≡ 0 → EachDay (daysOf (now (starts .entry)) (now (nodes .entry)) (now (sources .entry)) (now (sinks .entry)) (now (stamps .entry)) (now (tails .entry)) (now (heads .entry)) (now (capacities .entry)) (now (minimums .entry))) (now (flow .entry)) (now (side .entry)) (now (work .entry)) (now (flow .exit)) (now (side .exit)) (now (work .exit)) (now (answers .exit)) r) ⌝ }
+    ensures exact { λ r. ⌜ (let days = lentDays starts nodes sources sinks stamps tails heads capacities minimums in
+        monthLeft r (after flow) (after side) (after work) (after answers) ≡ month days (before flow) (before side) (before work) (before answers)) ⌝ }
+    ensures each { λ r. ⌜ (let days = lentDays starts nodes sources sinks stamps tails heads capacities minimums in
+        r .refusal ≡ 0 → EachDay days (before flow) (before side) (before work) (after flow) (after side) (after work) (after answers) r) ⌝ }
 {
     month::solve_month(
         starts,

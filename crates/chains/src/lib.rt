@@ -5,13 +5,13 @@ use table::Verdict;
 ghost use mathlib.Core.Path.{_≡_};
 ghost use Prim.Native.Nat.{_≤_};
 ghost use lib.ListN.{length};
+ghost use Rattle.rows.specs.Lent.{before};
 ghost use Rattle.rows.specs.Row.{Node};
-ghost use Rattle.table.specs.Table.{tableOf};
+ghost use Rattle.solver.specs.Solving.{GivenRoom};
+ghost use Rattle.table.specs.Table.{lentTable, givenTable};
 ghost use Rattle.table.specs.Accepted.{ArcEnds, Accepted};
-ghost use Rattle.arcs.specs.Work.{workNeed};
-ghost use Rattle.minimums.specs.BoundedTable.{boundedOf};
-ghost use Rattle.solver.specs.Solving.{left};
-ghost use Rattle.chains.specs.Listing.{shownBy, listingChecked, listing, Shows, handedWith};
+ghost use Rattle.minimums.specs.BoundedTable.{lentBounded};
+ghost use Rattle.chains.specs.Listing.{listingChecked, listing, Shows, handedWith, shownIn};
 
 // What listing returns: what solving returns, and how many numbers of the list were filled.
 #[repr(C)]
@@ -36,8 +36,9 @@ fn list_solved(
     list: &mut [u32],
 ) -> Listed
     requires { ⌜ ArcEnds n (now tails) (now heads) × Node n s × (length (now tails) ≤ length (now flows)) × (n ≤ length (now marks)) ⌝ }
-    requires { ⌜ (length (now tails) ≤ length (now flow)) × (n ≤ length (now side)) × (workNeed n (length (now tails)) ≤ length (now work)) ⌝ }
-    ensures { λ r. ⌜ shownBy r (now (flow .exit)) (now (side .exit)) (now (work .exit)) (now (list .exit)) ≡ handedWith answer n s t (now (tails .entry)) (now (heads .entry)) (now (flows .entry)) (now (marks .entry)) (now (flow .entry)) (now (side .entry)) (now (work .entry)) (now (list .entry)) ⌝ }
+    requires { ⌜ GivenRoom n tails flow side work ⌝ }
+    ensures { λ r. ⌜ shownIn r flow side work list
+        ≡ handedWith answer n s t (before tails) (before heads) (before flows) (before marks) (before flow) (before side) (before work) (before list) ⌝ }
 {
     // The list is counted before anything is written: no piece fits a row of one number.
     let mut none = [0u32; 1];
@@ -69,9 +70,10 @@ fn list_table(
     work: &mut [u32],
     list: &mut [u32],
 ) -> Listed
-    requires { ⌜ Accepted (tableOf n s t (now tails) (now heads) (now capacities)) ⌝ }
-    requires { ⌜ (length (now capacities) ≤ length (now flow)) × (n ≤ length (now side)) × (workNeed n (length (now capacities)) ≤ length (now work)) ⌝ }
-    ensures { λ r. ⌜ shownBy r (now (flow .exit)) (now (side .exit)) (now (work .exit)) (now (list .exit)) ≡ listingChecked (tableOf n s t (now (tails .entry)) (now (heads .entry)) (now (capacities .entry))) stamp (now (flow .entry)) (now (side .entry)) (now (work .entry)) (now (list .entry)) ⌝ }
+    requires { ⌜ Accepted (givenTable n s t tails heads capacities) ⌝ }
+    requires { ⌜ GivenRoom n capacities flow side work ⌝ }
+    ensures { λ r. ⌜ (let table = lentTable n s t tails heads capacities in
+        shownIn r flow side work list ≡ listingChecked table stamp (before flow) (before side) (before work) (before list)) ⌝ }
 {
     let mut flows = [0u32; 4096];
     let mut marks = [0u8; 512];
@@ -119,8 +121,9 @@ pub fn list_chains(
     work: &mut [u32],
     list: &mut [u32],
 ) -> Listed
-    ensures exact { λ r. ⌜ shownBy r (now (flow .exit)) (now (side .exit)) (now (work .exit)) (now (list .exit)) ≡ listing (boundedOf n s t (now (tails .entry)) (now (heads .entry)) (now (capacities .entry)) (now (minimums .entry))) stamp (now (flow .entry)) (now (side .entry)) (now (work .entry)) (now (list .entry)) ⌝ }
-    ensures shows { λ r. ⌜ (r .answer .refusal ≡ 0 → Shows (tableOf n s t (now (tails .entry)) (now (heads .entry)) (now (capacities .entry))) (shownBy r (now (flow .exit)) (now (side .exit)) (now (work .exit)) (now (list .exit)))) ⌝ }
+    ensures exact { λ r. ⌜ (let table = lentBounded n s t tails heads capacities minimums in
+        shownIn r flow side work list ≡ listing table stamp (before flow) (before side) (before work) (before list)) ⌝ }
+    ensures shows { λ r. ⌜ (r .answer .refusal ≡ 0 → Shows (lentTable n s t tails heads capacities) (shownIn r flow side work list)) ⌝ }
 {
     let room = solver::has_room(n, capacities.len(), flow.len(), side.len(), work.len());
     match minimums::plain_check(n, tails, heads, capacities, minimums, s, t, room) {

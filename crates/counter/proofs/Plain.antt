@@ -8,7 +8,7 @@ use lib.ListN.{length, length-replicate}
 use Rattle.table.specs.Accepted.{Accepted}
 use Rattle.minimums.specs.BoundedTable.{BoundedTable}
 use Rattle.minimums.specs.Checks.{plain}
-use Rattle.bounded.proofs.Largest.{table-accepted}
+use Rattle.feasible.proofs.Accepting.{table-accepted}
 use Rattle.solver.specs.Solving.{solved}
 use Rattle.solver.proofs.Solved.{solved-flows, solved-marks}
 use Rattle.table.specs.Table.{arcs}

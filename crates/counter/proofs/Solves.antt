@@ -18,7 +18,7 @@ use Rattle.minimums.specs.Checks.{boundedCheck, plain}
 use Rattle.minimums.proofs.Accepting.{plain-check}
 use Rattle.minimums.proofs.Faults.{bounded-accepts}
 use Rattle.arcs.specs.Work.{workNeed}
-use Rattle.bounded.specs.Bounded.{NoFlow}
+use Rattle.feasible.specs.Flows.{NoFlow}
 use Rattle.solver.specs.Solving.{Left, hasRoom, answerWith, solved, solvingVerdict, solving}
 use Rattle.solver.proofs.Solved.{fine-solving}
 use Rattle.pen.specs.Wrote.{Wrote}

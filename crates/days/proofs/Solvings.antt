@@ -1,18 +1,16 @@
 -- Facts of solving a day that a month rests on: the value is small, no row's length changes, and what stood in the work row does not matter.
 use Prim.Native.Nat.{ℕ, _≤_}
 use mathlib.Core.Path.{_≡_, refl, sym, ap, _∙_, subst}
-use mathlib.Core.Bool.{Bool, true, false, cond}
+use mathlib.Core.Bool.{true, false, cond}
 use mathlib.Core.List.{List, _++_}
 use native.Mathlib.Omega.{arith}
 use borrow.Author.Tests.{ne-eqb}
 use lib.Dec.{eqb}
 use lib.ListN.{length, drop, length-append, length-drop, length-replicate, replicate}
 use Rattle.rows.specs.Row.{atPlace, cleared}
-use Rattle.rows.specs.Sum.{sum}
-use Rattle.rows.proofs.Sums.{sum-mono, only-le, both-true}
-use Rattle.network.specs.Network.{Network, leaves, leaving}
-use Rattle.table.specs.Table.{Table, arcs, capacity, networkOf}
-use Rattle.table.specs.Checks.{isFine, orElse, checkOf}
+use Rattle.rows.proofs.Sums.{both-true}
+use Rattle.table.specs.Table.{Table, arcs, networkOf}
+use Rattle.table.specs.Checks.{isFine, orElse}
 use Rattle.table.specs.Refusals.{numberOf}
 use Rattle.table.specs.Accepted.{Accepted}
 use Rattle.table.specs.declared.Name.{Name}
@@ -20,12 +18,11 @@ use Rattle.table.specs.declared.Name.the-variants.{Bounded}
 use Rattle.table.specs.declared.Verdict.{Verdict}
 use Rattle.table.specs.declared.Verdict.the-variants.{Fine, Refused}
 use Rattle.table.proofs.Numbers.{number-positive}
-use Rattle.reach.specs.Side.{marked, sideOf}
+use Rattle.reach.specs.Side.{sideOf}
 use Rattle.reach.proofs.Side.{length-of-side}
 use Rattle.run.specs.Phase.{run, value}
 use Rattle.run.proofs.Networks.{accepted-sound}
-use Rattle.run.proofs.Whole.{capacity-in-all}
-use Rattle.run.proofs.Answers.{run-best, run-fits}
+use Rattle.run.proofs.Answers.{run-fits, run-value}
 use Rattle.arcs.specs.Work.{workNeed}
 use Rattle.minimums.specs.BoundedTable.{BoundedTable}
 use Rattle.minimums.specs.Checks.{plain, allZero, boundedCheck}
@@ -34,16 +31,6 @@ use Rattle.solver.specs.declared.Answer.{Answer}
 use Rattle.solver.specs.Solving.{Left, answerWith, refusal, left, solved, solvingAs, solvingVerdict, solving, hasRoom, Meets}
 use Rattle.verdicts.specs.Plain.{plainVerdict, plainSolving}
 use Rattle.solver.proofs.Solved.{Roomy, room-roomy, solved-meets}
-
--- What leaves a set of nodes is at most all of it.
-leaving-most : (N : Network) (X : ℕ → Bool) (f : ℕ → ℕ) → leaving N X f ≤ sum (N .m) f
-unfolding leaving
-leaving-most N X f = sum-mono (N .m) _ f (λ k _. only-le (leaves N X k) (f k))
-
--- The value of an accepted table's run is at most all its capacities together.
-run-value : (t : Table) → Accepted t → value t (run t .state .flow) ≤ 4096000000
-run-value t ok =
-    omega (arith, run-best t ok .cut, capacity-in-all t ok, leaving-most (networkOf t) (marked (sideOf t (run t .state .flow))) (capacity t))
 
 -- Rows that are as long as those lent.
 pub record Long (flow side work : List ℕ) (l : Left) : Type 0 where

@@ -1,6 +1,7 @@
 // Reading a text, and what the desk prints for one, under C names: for the host's comparisons.
 use text::Given;
 ghost use mathlib.Core.Path.{_≡_};
+ghost use Rattle.rows.specs.Lent.{before, after};
 ghost use Rattle.text.specs.Reading.{valuesOf};
 ghost use Rattle.counter.specs.Desk.{Served};
 ghost use Rattle.desk_calls.specs.Numbers.{textOf, ReadsAs};
@@ -49,7 +50,8 @@ pub extern "C" fn jorrabide_read_text(
     capacities: &mut [u32],
     minimums: &mut [u32],
 ) -> Text
-    ensures { λ r. ⌜ ReadsAs (now (text .entry)) (now (tails .entry)) (now (heads .entry)) (now (capacities .entry)) (now (minimums .entry)) r (now (tails .exit)) (now (heads .exit)) (now (capacities .exit)) (now (minimums .exit)) ⌝ }
+    ensures { λ r. ⌜ ReadsAs (before text) (before tails) (before heads) (before capacities) (before minimums)
+        r (after tails) (after heads) (after capacities) (after minimums) ⌝ }
 {
     in_numbers(text::read(text, tails, heads, capacities, minimums))
 }
@@ -57,7 +59,7 @@ pub extern "C" fn jorrabide_read_text(
 // `counter::serve`.
 #[no_mangle]
 pub extern "C" fn jorrabide_serve(text: &[u8], out: &mut [u8]) -> usize
-    ensures { λ r. ⌜ Served (now (text .entry)) (now (out .entry)) (now (out .exit)) r ⌝ }
+    ensures { λ r. ⌜ Served (before text) (before out) (after out) r ⌝ }
 {
     counter::serve(text, out)
 }

@@ -2,7 +2,7 @@
 use table::Name;
 use table::Verdict;
 ghost use mathlib.Core.Path.{_≡_};
-ghost use Rattle.minimums.specs.BoundedTable.{boundedOf};
+ghost use Rattle.minimums.specs.BoundedTable.{lentBounded};
 ghost use Rattle.intake.specs.Verdict.{textVerdict};
 
 // The first refusal before a text of this length is read against a table, if any; `room` is whether the row that its caller lends is long enough.
@@ -17,7 +17,7 @@ pub fn text_verdict(
     text: usize,
     room: bool,
 ) -> Verdict
-    ensures { λ r. ⌜ r ≡ textVerdict (boundedOf n s t (now (tails .entry)) (now (heads .entry)) (now (capacities .entry)) (now (minimums .entry))) text room ⌝ }
+    ensures { λ r. ⌜ r ≡ textVerdict (lentBounded n s t tails heads capacities minimums) text room ⌝ }
 {
     if 1048576 < text {
         return Verdict::Refused(Name::Long, 0);

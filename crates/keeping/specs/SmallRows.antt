@@ -1,6 +1,8 @@
 -- The five rows that hold a smaller table and where it came from.
 use Prim.Native.Nat.{ℕ}
 use mathlib.Core.List.{List}
+use denote.Triple.Both.{Both}
+use Rattle.rows.specs.Lent.{Lent, before, after}
 
 -- The rows of a smaller table's arcs, and those that say where its nodes and arcs came from.
 pub record SmallRows : Type 0 where
@@ -14,3 +16,11 @@ pub record SmallRows : Type 0 where
 abbrev pub smallRows : (tails heads capacities nodes-from arcs-from : List ℕ) → SmallRows
 smallRows tails heads capacities nodes-from arcs-from =
     record { tails = tails; heads = heads; capacities = capacities; nodes-from = nodes-from; arcs-from = arcs-from }
+
+-- Five lent rows of a smaller table and its origins: what they held before the call, and what they hold after it.
+abbrev pub lentSmall : (tails heads capacities nodes-from arcs-from : Lent) → Both SmallRows SmallRows
+lentSmall tails heads capacities nodes-from arcs-from =
+    record {
+      entry = smallRows (before tails) (before heads) (before capacities) (before nodes-from) (before arcs-from);
+      exit = smallRows (after tails) (after heads) (after capacities) (after nodes-from) (after arcs-from);
+    }

@@ -4,31 +4,21 @@ ghost use mathlib.Core.Bool.{true, cond};
 ghost use mathlib.Core.List.{map, _++_};
 ghost use Prim.Native.Nat.{ℕ, suc, _+_, _≤_, _<_};
 ghost use lib.ListN.{length, take, drop};
+ghost use Rattle.rows.specs.Lent.{before, after};
 ghost use Rattle.rows.specs.Row.{Node, atPlace, atNode, byPlace, byNode};
 ghost use Rattle.table.specs.Accepted.{ArcEnds};
 ghost use Rattle.arcs.specs.Residual.{Places};
 ghost use Rattle.listing.specs.Passing.{passing, filledWith};
 ghost use Rattle.shrinking.specs.Smaller.{bothMark, nodeBy, arcBy, upTo, backBy};
-ghost use Rattle.keeping.specs.SmallRows.{smallRows};
+ghost use Rattle.keeping.specs.SmallRows.{lentSmall};
 ghost use Rattle.keeping.specs.Written.{Written};
-
-// Whether both rows mark node i.
-fn both_mark(ahead: &[u8], behind: &[u8], i: u32) -> bool
-    requires { ⌜ Node (length (now ahead)) i × Node (length (now behind)) i ⌝ }
-    ensures { λ r. ⌜ r ≡ bothMark (now (ahead .entry)) (now (behind .entry)) i ⌝ }
-{
-    if ahead[(i - 1) as usize] != 1 {
-        return false;
-    }
-    behind[(i - 1) as usize] == 1
-}
 
 // Whether node i is kept: both rows mark it, or it is source or sink.
 fn keeps_node(ahead: &[u8], behind: &[u8], s: u32, t: u32, i: u32) -> bool
     requires { ⌜ Node (length (now ahead)) i × Node (length (now behind)) i ⌝ }
-    ensures { λ r. ⌜ r ≡ nodeBy (now (ahead .entry)) (now (behind .entry)) s t i ⌝ }
+    ensures { λ r. ⌜ r ≡ nodeBy (before ahead) (before behind) s t i ⌝ }
 {
-    if both_mark(ahead, behind, i) {
+    if reach::both_mark(ahead, i, behind, i) {
         return true;
     }
     if i == s {
@@ -46,16 +36,19 @@ fn keeps_arc(
     capacities: &[u32],
     k: usize,
 ) -> bool
-    requires { ⌜ ArcEnds (length (now ahead)) (now tails) (now heads) × (length (now behind) ≡ length (now ahead)) × (length (now capacities) ≡ length (now tails)) × (k < length (now tails)) ⌝ }
-    ensures { λ r. ⌜ r ≡ arcBy (now (ahead .entry)) (now (behind .entry)) (now (tails .entry)) (now (heads .entry)) (now (capacities .entry)) k ⌝ }
+    requires { ⌜ ArcEnds (length (now ahead)) (now tails) (now heads) × (length (now behind) ≡ length (now ahead))
+        × (length (now capacities) ≡ length (now tails)) × (k < length (now tails)) ⌝ }
+    ensures { λ r. ⌜ r ≡ arcBy (before ahead) (before behind) (before tails) (before heads) (before capacities) k ⌝ }
 {
     if capacities[k] < 1 {
         return false;
     }
-    if !both_mark(ahead, behind, tails[k]) {
+    let tail = tails[k];
+    if !reach::both_mark(ahead, tail, behind, tail) {
         return false;
     }
-    both_mark(ahead, behind, heads[k])
+    let head = heads[k];
+    reach::both_mark(ahead, head, behind, head)
 }
 
 // One more where something is kept.
@@ -72,7 +65,7 @@ fn one_more(keep: bool, count: u32) -> u32
 // What a row holds at a place where something is kept, and else 0.
 fn taken(keep: bool, flows: &[u32], at: u32) -> u32
     requires { ⌜ (keep ≡ true → at < length (now flows)) ⌝ }
-    ensures { λ r. ⌜ r ≡ cond keep (atPlace (now (flows .entry)) at) 0 ⌝ }
+    ensures { λ r. ⌜ r ≡ cond keep (atPlace (before flows) at) 0 ⌝ }
 {
     if keep {
         return flows[at as usize];
@@ -82,8 +75,10 @@ fn taken(keep: bool, flows: &[u32], at: u32) -> u32
 
 // Fills a list with the kept nodes, rising, and answers how many there are.
 fn list_kept(ahead: &[u8], behind: &[u8], s: u32, t: u32, list: &mut [u32]) -> u32
-    requires { ⌜ (length (now ahead) ≤ 512) × (length (now behind) ≡ length (now ahead)) × (length (now ahead) ≤ length (now list)) × ((1 ≤ s) × (1 ≤ t)) ⌝ }
-    ensures { λ r. ⌜ (r ≡ length (passing (nodeBy (now (ahead .entry)) (now (behind .entry)) s t) (suc (length (now (ahead .entry)))))) × (now (list .exit) ≡ filledWith (passing (nodeBy (now (ahead .entry)) (now (behind .entry)) s t) (suc (length (now (ahead .entry))))) (now (list .entry))) ⌝ }
+    requires { ⌜ (length (now ahead) ≤ 512) × (length (now behind) ≡ length (now ahead)) × (length (now ahead) ≤ length (now list))
+        × ((1 ≤ s) × (1 ≤ t)) ⌝ }
+    ensures { λ r. ⌜ (let kept = passing (nodeBy (before ahead) (before behind) s t) (suc (length (before ahead))) in
+        (r ≡ length kept) × (after list ≡ filledWith kept (before list))) ⌝ }
 {
     let mut count: u32 = 0;
     let mut k = 0;
@@ -100,8 +95,9 @@ fn list_kept(ahead: &[u8], behind: &[u8], s: u32, t: u32, list: &mut [u32]) -> u
 
 // Gives each node its number: how many kept ones there are up to it.
 fn number_nodes(ahead: &[u8], behind: &[u8], s: u32, t: u32, numbers: &mut [u32])
-    requires { ⌜ (length (now ahead) ≤ 512) × (length (now behind) ≡ length (now ahead)) × (length (now numbers) ≡ length (now ahead)) × ((1 ≤ s) × (1 ≤ t)) ⌝ }
-    ensures { λ _. ⌜ now (numbers .exit) ≡ byNode (upTo (nodeBy (now (ahead .entry)) (now (behind .entry)) s t)) (length (now (ahead .entry))) ⌝ }
+    requires { ⌜ (length (now ahead) ≤ 512) × (length (now behind) ≡ length (now ahead)) × (length (now numbers) ≡ length (now ahead))
+        × ((1 ≤ s) × (1 ≤ t)) ⌝ }
+    ensures { λ _. ⌜ after numbers ≡ byNode (upTo (nodeBy (before ahead) (before behind) s t)) (length (before ahead)) ⌝ }
 {
     let mut count: u32 = 0;
     let mut k = 0;
@@ -122,8 +118,10 @@ fn list_arcs(
     capacities: &[u32],
     list: &mut [u32],
 ) -> u32
-    requires { ⌜ ArcEnds (length (now ahead)) (now tails) (now heads) × (length (now behind) ≡ length (now ahead)) × (length (now capacities) ≡ length (now tails)) × (length (now tails) ≤ length (now list)) ⌝ }
-    ensures { λ r. ⌜ (r ≡ length (passing (arcBy (now (ahead .entry)) (now (behind .entry)) (now (tails .entry)) (now (heads .entry)) (now (capacities .entry))) (length (now (tails .entry))))) × (now (list .exit) ≡ filledWith (passing (arcBy (now (ahead .entry)) (now (behind .entry)) (now (tails .entry)) (now (heads .entry)) (now (capacities .entry))) (length (now (tails .entry)))) (now (list .entry))) ⌝ }
+    requires { ⌜ ArcEnds (length (now ahead)) (now tails) (now heads) × (length (now behind) ≡ length (now ahead))
+        × (length (now capacities) ≡ length (now tails)) × (length (now tails) ≤ length (now list)) ⌝ }
+    ensures { λ r. ⌜ (let kept = passing (arcBy (before ahead) (before behind) (before tails) (before heads) (before capacities)) (length (before tails)) in
+        (r ≡ length kept) × (after list ≡ filledWith kept (before list))) ⌝ }
 {
     let mut count: u32 = 0;
     let mut k = 0;
@@ -139,8 +137,9 @@ fn list_arcs(
 
 // Fills a row with the new numbers of the ends of the arcs at these places.
 fn renumber(from: &[u32], ends: &[u32], numbers: &[u32], row: &mut [u32])
-    requires { ⌜ Places (length (now ends)) (now from) × ((k : ℕ) → k < length (now ends) → Node (length (now numbers)) (atPlace (now ends) k)) × (length (now from) ≤ length (now row)) ⌝ }
-    ensures { λ _. ⌜ now (row .exit) ≡ filledWith (map (λ (k : ℕ). atNode (now (numbers .entry)) (atPlace (now (ends .entry)) k)) (now (from .entry))) (now (row .entry)) ⌝ }
+    requires { ⌜ Places (length (now ends)) (now from) × ((k : ℕ) → k < length (now ends) → Node (length (now numbers)) (atPlace (now ends) k))
+        × (length (now from) ≤ length (now row)) ⌝ }
+    ensures { λ _. ⌜ after row ≡ filledWith (map (λ (k : ℕ). atNode (before numbers) (atPlace (before ends) k)) (before from)) (before row) ⌝ }
 {
     let mut j = 0;
     while j < from.len() {
@@ -153,7 +152,7 @@ fn renumber(from: &[u32], ends: &[u32], numbers: &[u32], row: &mut [u32])
 // Fills a row with what another holds at these places.
 fn gather(from: &[u32], held: &[u32], row: &mut [u32])
     requires { ⌜ Places (length (now held)) (now from) × (length (now from) ≤ length (now row)) ⌝ }
-    ensures { λ _. ⌜ now (row .exit) ≡ filledWith (map (λ (k : ℕ). atPlace (now (held .entry)) k) (now (from .entry))) (now (row .entry)) ⌝ }
+    ensures { λ _. ⌜ after row ≡ filledWith (map (λ (k : ℕ). atPlace (before held) k) (before from)) (before row) ⌝ }
 {
     let mut j = 0;
     while j < from.len() {
@@ -173,8 +172,11 @@ pub fn put_back(
     flows: &[u32],
     flow: &mut [u32],
 )
-    requires { ⌜ ArcEnds (length (now ahead)) (now tails) (now heads) × (length (now behind) ≡ length (now ahead)) × (length (now capacities) ≡ length (now tails)) × (length (now tails) ≤ length (now flow)) × (length (now tails) ≤ length (now flows)) ⌝ }
-    ensures { λ _. ⌜ now (flow .exit) ≡ byPlace (backBy (arcBy (now (ahead .entry)) (now (behind .entry)) (now (tails .entry)) (now (heads .entry)) (now (capacities .entry))) (now (flows .entry))) (length (now (tails .entry))) ++ drop (length (now (tails .entry))) (now (flow .entry)) ⌝ }
+    requires { ⌜ ArcEnds (length (now ahead)) (now tails) (now heads) × (length (now behind) ≡ length (now ahead))
+        × (length (now capacities) ≡ length (now tails)) × (length (now tails) ≤ length (now flow))
+        × (length (now tails) ≤ length (now flows)) ⌝ }
+    ensures { λ _. ⌜ (let kept = arcBy (before ahead) (before behind) (before tails) (before heads) (before capacities) in
+        after flow ≡ byPlace (backBy kept (before flows)) (length (before tails)) ++ drop (length (before tails)) (before flow)) ⌝ }
 {
     let mut count: u32 = 0;
     let mut k = 0;
@@ -198,11 +200,15 @@ fn fill_arcs(
     small_heads: &mut [u32],
     small_capacities: &mut [u32],
 )
-    requires { ⌜ ArcEnds (length (now numbers)) (now tails) (now heads) × (length (now capacities) ≡ length (now tails)) × (count ≤ length (now from)) × Places (length (now tails)) (take count (now from)) ⌝ }
+    requires { ⌜ ArcEnds (length (now numbers)) (now tails) (now heads) × (length (now capacities) ≡ length (now tails))
+        × (count ≤ length (now from)) × Places (length (now tails)) (take count (now from)) ⌝ }
     requires { ⌜ (count ≤ length (now «small_tails»)) × (count ≤ length (now «small_heads»)) × (count ≤ length (now «small_capacities»)) ⌝ }
-    ensures { λ _. ⌜ now («small_tails» .exit) ≡ filledWith (map (λ (k : ℕ). atNode (now (numbers .entry)) (atPlace (now (tails .entry)) k)) (take count (now (from .entry)))) (now («small_tails» .entry)) ⌝ }
-    ensures { λ _. ⌜ now («small_heads» .exit) ≡ filledWith (map (λ (k : ℕ). atNode (now (numbers .entry)) (atPlace (now (heads .entry)) k)) (take count (now (from .entry)))) (now («small_heads» .entry)) ⌝ }
-    ensures { λ _. ⌜ now («small_capacities» .exit) ≡ filledWith (map (λ (k : ℕ). atPlace (now (capacities .entry)) k) (take count (now (from .entry)))) (now («small_capacities» .entry)) ⌝ }
+    ensures { λ _. ⌜ after «small_tails»
+        ≡ filledWith (map (λ (k : ℕ). atNode (before numbers) (atPlace (before tails) k)) (take count (before from))) (before «small_tails») ⌝ }
+    ensures { λ _. ⌜ after «small_heads»
+        ≡ filledWith (map (λ (k : ℕ). atNode (before numbers) (atPlace (before heads) k)) (take count (before from))) (before «small_heads») ⌝ }
+    ensures { λ _. ⌜ after «small_capacities»
+        ≡ filledWith (map (λ (k : ℕ). atPlace (before capacities) k) (take count (before from))) (before «small_capacities») ⌝ }
 {
     let m = count as usize;
     renumber(&from[..m], tails, numbers, small_tails);
@@ -234,10 +240,14 @@ pub fn write_small(
     nodes_from: &mut [u32],
     arcs_from: &mut [u32],
 ) -> Sizes
-    requires { ⌜ ArcEnds (length (now ahead)) (now tails) (now heads) × (length (now behind) ≡ length (now ahead)) × (length (now numbers) ≡ length (now ahead)) × (length (now capacities) ≡ length (now tails)) ⌝ }
+    requires { ⌜ ArcEnds (length (now ahead)) (now tails) (now heads) × (length (now behind) ≡ length (now ahead))
+        × (length (now numbers) ≡ length (now ahead)) × (length (now capacities) ≡ length (now tails)) ⌝ }
     requires { ⌜ Node (length (now ahead)) s × Node (length (now ahead)) t ⌝ }
-    requires { ⌜ (length (now tails) ≤ length (now «small_tails»)) × (length (now tails) ≤ length (now «small_heads»)) × (length (now tails) ≤ length (now «small_capacities»)) × (length (now ahead) ≤ length (now «nodes_from»)) × (length (now tails) ≤ length (now «arcs_from»)) ⌝ }
-    ensures { λ r. ⌜ Written (now (ahead .entry)) (now (behind .entry)) s t (now (tails .entry)) (now (heads .entry)) (now (capacities .entry)) (smallRows (now («small_tails» .entry)) (now («small_heads» .entry)) (now («small_capacities» .entry)) (now («nodes_from» .entry)) (now («arcs_from» .entry))) r (smallRows (now («small_tails» .exit)) (now («small_heads» .exit)) (now («small_capacities» .exit)) (now («nodes_from» .exit)) (now («arcs_from» .exit))) ⌝ }
+    requires { ⌜ (length (now tails) ≤ length (now «small_tails»)) × (length (now tails) ≤ length (now «small_heads»))
+        × (length (now tails) ≤ length (now «small_capacities»)) × (length (now ahead) ≤ length (now «nodes_from»))
+        × (length (now tails) ≤ length (now «arcs_from»)) ⌝ }
+    ensures { λ r. ⌜ (let small = lentSmall «small_tails» «small_heads» «small_capacities» «nodes_from» «arcs_from» in
+        Written (before ahead) (before behind) s t (before tails) (before heads) (before capacities) (small .entry) r (small .exit)) ⌝ }
 {
     let nodes = list_kept(ahead, behind, s, t, nodes_from);
     number_nodes(ahead, behind, s, t, numbers);

@@ -5,9 +5,10 @@ ghost use mathlib.Core.Path.{_≡_};
 ghost use mathlib.Core.Bool.{Bool};
 ghost use Prim.Native.Nat.{_≤_};
 ghost use lib.ListN.{length};
+ghost use Rattle.rows.specs.Lent.{before};
 ghost use Rattle.table.specs.Table.{Table};
 ghost use Rattle.table.specs.Checks.{checkOf};
-ghost use Rattle.minimums.specs.BoundedTable.{boundedOf};
+ghost use Rattle.minimums.specs.BoundedTable.{lentBounded};
 ghost use Rattle.minimums.specs.Checks.{boundedFault, withMinimums, boundedCheck, allZero, plainCheck, endOf, FirstAbove};
 
 // A record of one arc: tail, head, capacity and least flow together.
@@ -21,7 +22,7 @@ pub struct Arc {
 
 // Are all numbers of a row 0?
 pub fn is_all_zero(row: &[u32]) -> bool
-    ensures { λ r. ⌜ r ≡ allZero (now (row .entry)) ⌝ }
+    ensures { λ r. ⌜ r ≡ allZero (before row) ⌝ }
 {
     let mut k = 0;
     while k < row.len() {
@@ -60,7 +61,7 @@ fn end_of(found: Verdict, m: usize) -> usize
 // The first minimum above its capacity at a place before `end`, or none.
 fn first_above(capacities: &[u32], minimums: &[u32], end: usize) -> Verdict
     requires { ⌜ (end ≤ length (now capacities)) × (end ≤ length (now minimums)) × (end ≤ 4096) ⌝ }
-    ensures { λ r. ⌜ FirstAbove 0 end (now (capacities .entry)) (now (minimums .entry)) r ⌝ }
+    ensures { λ r. ⌜ FirstAbove 0 end (before capacities) (before minimums) r ⌝ }
 {
     let mut place: usize = 0;
     while place < end {
@@ -75,7 +76,8 @@ fn first_above(capacities: &[u32], minimums: &[u32], end: usize) -> Verdict
 // The verdict of a table of four rows, from that of its three: ROWS looks at all of them, and an arc's MINIMUM comes before what a later arc has.
 fn with_minimums(n: u32, found: Verdict, capacities: &[u32], minimums: &[u32]) -> Verdict
     requires { ⌜ ((t : Table) × (room : Bool) × (t .nodes ≡ n) × (t .capacities ≡ now capacities) × (found ≡ checkOf t room)) ⌝ }
-    ensures { λ r. ⌜ ((t : Table) (room : Bool) → t .nodes ≡ n → t .capacities ≡ now (capacities .entry) → found ≡ checkOf t room → r ≡ boundedCheck (withMinimums t (now (minimums .entry))) room) ⌝ }
+    ensures { λ r. ⌜ ((t : Table) (room : Bool) → t .nodes ≡ n → t .capacities ≡ before capacities → found ≡ checkOf t room
+        → r ≡ boundedCheck (withMinimums t (before minimums)) room) ⌝ }
 {
     if capacities.len() != minimums.len() {
         if n < 2 {
@@ -104,7 +106,7 @@ pub fn check(
     t: u32,
     room: bool,
 ) -> Verdict
-    ensures { λ r. ⌜ r ≡ boundedCheck (boundedOf n s t (now (tails .entry)) (now (heads .entry)) (now (capacities .entry)) (now (minimums .entry))) room ⌝ }
+    ensures { λ r. ⌜ r ≡ boundedCheck (lentBounded n s t tails heads capacities minimums) room ⌝ }
 {
     let found = table::check(n, tails, heads, capacities, s, t, room);
     with_minimums(n, found, capacities, minimums)
@@ -121,7 +123,7 @@ pub fn plain_check(
     t: u32,
     room: bool,
 ) -> Verdict
-    ensures { λ r. ⌜ r ≡ plainCheck (boundedOf n s t (now (tails .entry)) (now (heads .entry)) (now (capacities .entry)) (now (minimums .entry))) room ⌝ }
+    ensures { λ r. ⌜ r ≡ plainCheck (lentBounded n s t tails heads capacities minimums) room ⌝ }
 {
     let found = check(n, tails, heads, capacities, minimums, s, t, room);
     if !table::is_fine(found) {

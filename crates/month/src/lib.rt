@@ -7,14 +7,15 @@ use tally::Tally;
 ghost use mathlib.Core.Path.{_≡_};
 ghost use Prim.Native.Nat.{ℕ, _+_, _≤_, _<_};
 ghost use lib.ListN.{length, getD};
+ghost use Rattle.rows.specs.Lent.{before, after};
 ghost use Rattle.rows.specs.Row.{part};
 ghost use Rattle.parts.specs.Placed.{placed};
 ghost use Rattle.table.specs.Checks.{differ};
-ghost use Rattle.minimums.specs.BoundedTable.{boundedOf};
-ghost use Rattle.solver.specs.Solving.{left};
+ghost use Rattle.minimums.specs.BoundedTable.{boundedOf, lentBounded};
+ghost use Rattle.solver.specs.Solving.{leftIn};
 ghost use Rattle.tally.specs.Sums.{noTally};
 ghost use Rattle.verdicts.specs.Plain.{plainSolving};
-ghost use Rattle.days.specs.Days.{daysOf, nine, held, nextDay, firstDays, partLeft, dayLeft};
+ghost use Rattle.days.specs.Days.{nine, held, nextDay, firstDays, partLeft, dayLeft, lentDays, givenDays};
 ghost use Rattle.days.specs.Month.{startsFall, rowsDiffer, hasMonthRoom, verdictOf, monthLeft, monthRefusal, monthSums, month};
 ghost use Rattle.days.specs.Promises.{EachDay};
 ghost use Rattle.days.specs.Ready.{Ready, Countable};
@@ -35,7 +36,8 @@ fn solve_plain(
     side: &mut [u8],
     work: &mut [u32],
 ) -> Answer
-    ensures { λ r. ⌜ left r (now (flow .exit)) (now (side .exit)) (now (work .exit)) ≡ plainSolving (boundedOf n s t (now (tails .entry)) (now (heads .entry)) (now (capacities .entry)) (now (minimums .entry))) stamp (now (flow .entry)) (now (side .entry)) (now (work .entry)) ⌝ }
+    ensures { λ r. ⌜ (let table = lentBounded n s t tails heads capacities minimums in
+        leftIn r flow side work ≡ plainSolving table stamp (before flow) (before side) (before work)) ⌝ }
 {
     let room = solver::has_room(n, capacities.len(), flow.len(), side.len(), work.len());
     match minimums::plain_check(n, tails, heads, capacities, minimums, s, t, room) {
@@ -57,7 +59,7 @@ fn solve_plain(
 
 // Where the day at a place starts, or the rows' end past the last day.
 fn start_of(starts: &[u32], j: usize, end: usize) -> usize
-    ensures { λ r. ⌜ r ≡ getD (now (starts .entry)) j end ⌝ }
+    ensures { λ r. ⌜ r ≡ getD (before starts) j end ⌝ }
 {
     if j < starts.len() {
         return starts[j] as usize;
@@ -82,9 +84,13 @@ fn solve_part(
     side: &mut [u8],
     work: &mut [u32],
 ) -> Answer
-    requires { ⌜ (a ≤ e) × (e ≤ length (now tails)) × (e ≤ length (now heads)) × (e ≤ length (now capacities)) × (e ≤ length (now minimums)) ⌝ }
+    requires { ⌜ (a ≤ e) × (e ≤ length (now tails)) × (e ≤ length (now heads)) × (e ≤ length (now capacities))
+        × (e ≤ length (now minimums)) ⌝ }
     requires { ⌜ (e ≤ length (now flow)) × (at + 512 ≤ length (now side)) ⌝ }
-    ensures { λ r. ⌜ left r (now (flow .exit)) (now (side .exit)) (now (work .exit)) ≡ partLeft a e at (now (flow .entry)) (now (side .entry)) (plainSolving (boundedOf n s t (part a e (now (tails .entry))) (part a e (now (heads .entry))) (part a e (now (capacities .entry))) (part a e (now (minimums .entry)))) stamp (part a e (now (flow .entry))) (part at (at + 512) (now (side .entry))) (now (work .entry))) ⌝ }
+    ensures { λ r. ⌜ (let table = boundedOf n s t (part a e (before tails)) (part a e (before heads))
+        (part a e (before capacities)) (part a e (before minimums)) in
+        let solved = plainSolving table stamp (part a e (before flow)) (part at (at + 512) (before side)) (before work) in
+        leftIn r flow side work ≡ partLeft a e at (before flow) (before side) solved) ⌝ }
 {
     let marks_end = at + 512;
     solve_plain(
@@ -105,7 +111,7 @@ fn solve_part(
 // Writes an answer's nine numbers into a row of nine.
 fn write_nine(row: &mut [u64], a: Answer)
     requires { ⌜ length (now row) ≡ 9 ⌝ }
-    ensures { λ _. ⌜ now (row .exit) ≡ nine a ⌝ }
+    ensures { λ _. ⌜ after row ≡ nine a ⌝ }
 {
     row[0] = rows::wide(a.refusal);
     row[1] = rows::wide(a.place);
@@ -121,7 +127,7 @@ fn write_nine(row: &mut [u64], a: Answer)
 // Writes an answer's nine numbers from place `at` of the answer row.
 fn write_answer(answers: &mut [u64], at: usize, a: Answer)
     requires { ⌜ at + 9 ≤ length (now answers) ⌝ }
-    ensures { λ _. ⌜ now (answers .exit) ≡ placed at (at + 9) (nine a) (now (answers .entry)) ⌝ }
+    ensures { λ _. ⌜ after answers ≡ placed at (at + 9) (nine a) (before answers) ⌝ }
 {
     let end = at + 9;
     write_nine(&mut answers[at..end], a);
@@ -143,8 +149,10 @@ fn answer_day(
     side: &mut [u8],
     work: &mut [u32],
 ) -> Answer
-    requires { ⌜ (j < length (now starts)) × ((k : ℕ) × Ready (daysOf (now starts) (now nodes) (now sources) (now sinks) (now stamps) (now tails) (now heads) (now capacities) (now minimums)) (length (now flow)) (length (now side)) k) ⌝ }
-    ensures { λ r. ⌜ left r (now (flow .exit)) (now (side .exit)) (now (work .exit)) ≡ dayLeft (daysOf (now (starts .entry)) (now (nodes .entry)) (now (sources .entry)) (now (sinks .entry)) (now (stamps .entry)) (now (tails .entry)) (now (heads .entry)) (now (capacities .entry)) (now (minimums .entry))) j (now (flow .entry)) (now (side .entry)) (now (work .entry)) ⌝ }
+    requires { ⌜ (let days = givenDays starts nodes sources sinks stamps tails heads capacities minimums in
+        (j < length (now starts)) × ((k : ℕ) × Ready days (length (now flow)) (length (now side)) k)) ⌝ }
+    ensures { λ r. ⌜ (let days = lentDays starts nodes sources sinks stamps tails heads capacities minimums in
+        leftIn r flow side work ≡ dayLeft days j (before flow) (before side) (before work)) ⌝ }
 {
     let a = start_of(starts, j, capacities.len());
     let e = start_of(starts, j + 1, capacities.len());
@@ -184,9 +192,12 @@ fn solve_day(
     work: &mut [u32],
     answers: &mut [u64],
 ) -> Tally
-    requires { ⌜ Ready (daysOf (now starts) (now nodes) (now sources) (now sinks) (now stamps) (now tails) (now heads) (now capacities) (now minimums)) (length (now flow)) (length (now side)) (length (now answers)) ⌝ }
+    requires { ⌜ (let days = givenDays starts nodes sources sinks stamps tails heads capacities minimums in
+        Ready days (length (now flow)) (length (now side)) (length (now answers))) ⌝ }
     requires { ⌜ (j < length (now starts)) × Countable j tally ⌝ }
-    ensures { λ r. ⌜ held r (now (flow .exit)) (now (side .exit)) (now (work .exit)) (now (answers .exit)) ≡ nextDay (daysOf (now (starts .entry)) (now (nodes .entry)) (now (sources .entry)) (now (sinks .entry)) (now (stamps .entry)) (now (tails .entry)) (now (heads .entry)) (now (capacities .entry)) (now (minimums .entry))) j (held tally (now (flow .entry)) (now (side .entry)) (now (work .entry)) (now (answers .entry))) ⌝ }
+    ensures { λ r. ⌜ (let days = lentDays starts nodes sources sinks stamps tails heads capacities minimums in
+        held r (after flow) (after side) (after work) (after answers)
+        ≡ nextDay days j (held tally (before flow) (before side) (before work) (before answers))) ⌝ }
 {
     let answer = answer_day(
         j,
@@ -223,8 +234,11 @@ fn solve_days(
     work: &mut [u32],
     answers: &mut [u64],
 ) -> Tally
-    requires { ⌜ Ready (daysOf (now starts) (now nodes) (now sources) (now sinks) (now stamps) (now tails) (now heads) (now capacities) (now minimums)) (length (now flow)) (length (now side)) (length (now answers)) ⌝ }
-    ensures { λ r. ⌜ held r (now (flow .exit)) (now (side .exit)) (now (work .exit)) (now (answers .exit)) ≡ firstDays (daysOf (now (starts .entry)) (now (nodes .entry)) (now (sources .entry)) (now (sinks .entry)) (now (stamps .entry)) (now (tails .entry)) (now (heads .entry)) (now (capacities .entry)) (now (minimums .entry))) (length (now (starts .entry))) (held noTally (now (flow .entry)) (now (side .entry)) (now (work .entry)) (now (answers .entry))) ⌝ }
+    requires { ⌜ (let days = givenDays starts nodes sources sinks stamps tails heads capacities minimums in
+        Ready days (length (now flow)) (length (now side)) (length (now answers))) ⌝ }
+    ensures { λ r. ⌜ (let days = lentDays starts nodes sources sinks stamps tails heads capacities minimums in
+        held r (after flow) (after side) (after work) (after answers)
+        ≡ firstDays days (length (before starts)) (held noTally (before flow) (before side) (before work) (before answers))) ⌝ }
 {
     let mut tally = Tally {
         solved: 0,
@@ -260,7 +274,7 @@ fn solve_days(
 
 // Do the starts fall, or pass the rows' end?
 fn do_fall(starts: &[u32], end: usize) -> bool
-    ensures { λ r. ⌜ r ≡ startsFall (now (starts .entry)) end (length (now (starts .entry))) ⌝ }
+    ensures { λ r. ⌜ r ≡ startsFall (before starts) end (length (before starts)) ⌝ }
 {
     let mut fall = false;
     let mut k: usize = 0;
@@ -335,7 +349,7 @@ fn month_verdict(
     side: usize,
     answers: usize,
 ) -> Verdict
-    ensures { λ r. ⌜ r ≡ verdictOf (now (starts .entry)) nodes sources sinks stamps tails heads capacities minimums flow side answers ⌝ }
+    ensures { λ r. ⌜ r ≡ verdictOf (before starts) nodes sources sinks stamps tails heads capacities minimums flow side answers ⌝ }
 {
     if 31 < starts.len() {
         return Verdict::Refused(Name::Many, 0);
@@ -404,8 +418,10 @@ pub fn solve_month(
     work: &mut [u32],
     answers: &mut [u64],
 ) -> Month
-    ensures exact { λ r. ⌜ monthLeft r (now (flow .exit)) (now (side .exit)) (now (work .exit)) (now (answers .exit)) ≡ month (daysOf (now (starts .entry)) (now (nodes .entry)) (now (sources .entry)) (now (sinks .entry)) (now (stamps .entry)) (now (tails .entry)) (now (heads .entry)) (now (capacities .entry)) (now (minimums .entry))) (now (flow .entry)) (now (side .entry)) (now (work .entry)) (now (answers .entry)) ⌝ }
-    ensures each { λ r. ⌜ (r .refusal ≡ 0 → EachDay (daysOf (now (starts .entry)) (now (nodes .entry)) (now (sources .entry)) (now (sinks .entry)) (now (stamps .entry)) (now (tails .entry)) (now (heads .entry)) (now (capacities .entry)) (now (minimums .entry))) (now (flow .entry)) (now (side .entry)) (now (work .entry)) (now (flow .exit)) (now (side .exit)) (now (work .exit)) (now (answers .exit)) r) ⌝ }
+    ensures exact { λ r. ⌜ (let days = lentDays starts nodes sources sinks stamps tails heads capacities minimums in
+        monthLeft r (after flow) (after side) (after work) (after answers) ≡ month days (before flow) (before side) (before work) (before answers)) ⌝ }
+    ensures each { λ r. ⌜ (let days = lentDays starts nodes sources sinks stamps tails heads capacities minimums in
+        r .refusal ≡ 0 → EachDay days (before flow) (before side) (before work) (after flow) (after side) (after work) (after answers) r) ⌝ }
 {
     match month_verdict(
         starts,

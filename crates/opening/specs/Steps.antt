@@ -1,19 +1,12 @@
 -- What the steps of an opening ask and give: for the contracts of private functions.
-use Prim.Native.Nat.{ℕ, _*_, _≤_, _<_}
-use mathlib.Core.Path.{_≡_}
+use Prim.Native.Nat.{ℕ, _≤_, _<_}
 use mathlib.Core.List.{List}
 use lib.ListN.{length}
-use Rattle.rows.specs.Row.{Node, atPlace, atNode}
+use Rattle.rows.specs.Row.{atPlace}
 use Rattle.network.specs.Network.{Flow}
 use Rattle.table.specs.Table.{Table, arcs, capacity, networkOf}
 use Rattle.table.specs.Accepted.{Accepted}
-use Rattle.start.specs.Sums.{sumAt}
 use Rattle.arcs.specs.Work.{workNeed}
-
--- A row by node has the flows of the first k places added up, each at its end, tail or head as the row says.
-pub record Tallied (ends flow : List ℕ) (k : ℕ) (sums : List ℕ) : Type 0 where
-  pub exact : (i : ℕ) → Node (length sums) i → atNode sums i ≡ sumAt ends flow i k
-  pub small : (i : ℕ) → Node (length sums) i → atNode sums i ≤ 4294967296 * k
 
 -- What holds where nothing is refused, of rows of these lengths.
 pub record Opens (t : Table) (place new : ℕ) (flow : List ℕ) (side work : ℕ) : Type 0 where

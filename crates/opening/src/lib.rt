@@ -3,28 +3,30 @@ use solver::Answer;
 use table::Name;
 use table::Verdict;
 ghost use mathlib.Core.Path.{_≡_};
-ghost use Prim.Native.Nat.{ℕ, _+_, _-_, _^_, _≤_, _<_};
+ghost use Prim.Native.Nat.{ℕ, _≤_, _<_};
 ghost use mathlib.Core.List.{List};
 ghost use lib.ListN.{length, set, replicate};
+ghost use Rattle.rows.specs.Lent.{before, after};
 ghost use Rattle.rows.specs.Row.{Node, atPlace, atNode};
 ghost use Rattle.network.specs.Network.{Flow};
-ghost use Rattle.minimums.specs.BoundedTable.{boundedOf};
-ghost use Rattle.table.specs.Table.{tableOf, networkOf};
+ghost use Rattle.minimums.specs.BoundedTable.{lentBounded};
+ghost use Rattle.table.specs.Table.{tableOf, networkOf, lentTable, givenTable};
 ghost use Rattle.table.specs.Accepted.{ArcRows, Accepted};
 ghost use Rattle.reach.specs.Side.{marked, sideOf};
 ghost use Rattle.start.specs.Sums.{sumAt};
+ghost use Rattle.sums.specs.Tallied.{Tallied};
 ghost use Rattle.arcs.specs.Work.{workEnd, workNeed, InWork};
-ghost use Rattle.solver.specs.Solving.{left};
+ghost use Rattle.solver.specs.Solving.{leftIn, GivenRoom};
 ghost use Rattle.opening.specs.Maximum.{MaximumFlow, isWithin, keeps, isKept, isFlow, isMaximum};
 ghost use Rattle.opening.specs.Opening.{opened, openedAnswer, changeVerdict, wentOn, openingAs, opening, Reopens};
-ghost use Rattle.opening.specs.Steps.{Tallied, Opens};
+ghost use Rattle.opening.specs.Steps.{Opens};
 
 // ---- is it a maximum flow?
 
 // Whether no flow is above its capacity.
 fn is_within(capacities: &[u32], flow: &[u32]) -> bool
     requires { ⌜ length (now capacities) ≤ length (now flow) ⌝ }
-    ensures { λ r. ⌜ r ≡ isWithin (now (capacities .entry)) (now (flow .entry)) ⌝ }
+    ensures { λ r. ⌜ r ≡ isWithin (before capacities) (before flow) ⌝ }
 {
     let mut k = 0;
     while k < capacities.len() {
@@ -34,29 +36,6 @@ fn is_within(capacities: &[u32], flow: &[u32]) -> bool
         k += 1;
     }
     true
-}
-
-// Adds x to node i's sum.
-fn add_at(sums: &mut [u64], i: u32, x: u32)
-    requires { ⌜ Node (length (now sums)) i × (atNode (now sums) i + x < 2 ^ 64) ⌝ }
-    ensures { λ _. ⌜ now (sums .exit) ≡ set (now (sums .entry)) (i - 1) (atNode (now (sums .entry)) i + x) ⌝ }
-{
-    let at = (i - 1) as usize;
-    sums[at] = sums[at] + rows::wide(x);
-}
-
-// Adds up by node what the flows take along arcs with that end: `ends` is the row of tails or of heads.
-fn tally(ends: &[u32], flow: &[u32], sums: &mut [u64])
-    requires { ⌜ (length (now ends) ≤ length (now flow)) × (length (now ends) ≤ 4096) ⌝ }
-    requires { ⌜ ((k : ℕ) → k < length (now ends) → Node (length (now sums)) (atPlace (now ends) k)) ⌝ }
-    requires { ⌜ Tallied (now ends) (now flow) 0 (now sums) ⌝ }
-    ensures { λ _. ⌜ Tallied (now (ends .entry)) (now (flow .entry)) (length (now (ends .entry))) (now (sums .exit)) ⌝ }
-{
-    let mut k = 0;
-    while k < ends.len() {
-        add_at(sums, ends[k], flow[k]);
-        k += 1;
-    }
 }
 
 // Whether node i is source or sink, or as much leaves it as enters it.
@@ -75,7 +54,7 @@ fn does_keep(s: u32, t: u32, i: u32, entering: u64, leaving: u64) -> bool
 // Whether that holds of every node.
 fn is_kept(s: u32, t: u32, entering: &[u64], leaving: &[u64]) -> bool
     requires { ⌜ (length (now leaving) ≡ length (now entering)) × (length (now entering) ≤ 512) ⌝ }
-    ensures { λ r. ⌜ r ≡ isKept s t (atNode (now (entering .entry))) (atNode (now (leaving .entry))) (length (now (entering .entry))) ⌝ }
+    ensures { λ r. ⌜ r ≡ isKept s t (atNode (before entering)) (atNode (before leaving)) (length (before entering)) ⌝ }
 {
     let mut k = 0;
     while k < entering.len() {
@@ -97,15 +76,17 @@ fn is_conserved(
     entering: &mut [u64],
     leaving: &mut [u64],
 ) -> bool
-    requires { ⌜ ((length (now tails) ≤ length (now flow)) × (length (now tails) ≤ 4096)) × ((length (now heads) ≤ length (now flow)) × (length (now heads) ≤ 4096)) ⌝ }
+    requires { ⌜ ((length (now tails) ≤ length (now flow)) × (length (now tails) ≤ 4096))
+        × ((length (now heads) ≤ length (now flow)) × (length (now heads) ≤ 4096)) ⌝ }
     requires { ⌜ ((k : ℕ) → k < length (now tails) → Node (length (now leaving)) (atPlace (now tails) k)) ⌝ }
     requires { ⌜ ((k : ℕ) → k < length (now heads) → Node (length (now entering)) (atPlace (now heads) k)) ⌝ }
     requires { ⌜ Tallied (now tails) (now flow) 0 (now leaving) × Tallied (now heads) (now flow) 0 (now entering) ⌝ }
     requires { ⌜ (length (now leaving) ≡ length (now entering)) × (length (now entering) ≤ 512) ⌝ }
-    ensures { λ r. ⌜ r ≡ isKept s t (λ i. sumAt (now (heads .entry)) (now (flow .entry)) i (length (now (heads .entry)))) (λ i. sumAt (now (tails .entry)) (now (flow .entry)) i (length (now (tails .entry)))) (length (now (entering .entry))) ⌝ }
+    ensures { λ r. ⌜ r ≡ isKept s t (λ i. sumAt (before heads) (before flow) i (length (before heads)))
+        (λ i. sumAt (before tails) (before flow) i (length (before tails))) (length (before entering)) ⌝ }
 {
-    tally(heads, flow, entering);
-    tally(tails, flow, leaving);
+    sums::tally(heads, flow, entering);
+    sums::tally(tails, flow, leaving);
     is_kept(s, t, entering, leaving)
 }
 
@@ -121,7 +102,7 @@ fn is_flow(
 ) -> bool
     requires { ⌜ ArcRows n (now tails) (now heads) (now capacities) ⌝ }
     requires { ⌜ length (now capacities) ≤ length (now flow) ⌝ }
-    ensures { λ r. ⌜ r ≡ isFlow (tableOf n s t (now (tails .entry)) (now (heads .entry)) (now (capacities .entry))) (now (flow .entry)) ⌝ }
+    ensures { λ r. ⌜ r ≡ isFlow (lentTable n s t tails heads capacities) (before flow) ⌝ }
 {
     if !is_within(capacities, flow) {
         return false;
@@ -152,10 +133,10 @@ fn is_sink_reached(
     lists: &[u32],
     marks: &mut [u8],
 ) -> bool
-    requires { ⌜ Accepted (tableOf n s t (now tails) (now heads) (now capacities)) ⌝ }
-    requires { ⌜ InWork (tableOf n s t (now tails) (now heads) (now capacities)) (now lists) ⌝ }
+    requires { ⌜ Accepted (givenTable n s t tails heads capacities) ⌝ }
+    requires { ⌜ InWork (givenTable n s t tails heads capacities) (now lists) ⌝ }
     requires { ⌜ (length (now capacities) ≤ length (now flow)) × (n ≤ length (now marks)) ⌝ }
-    ensures { λ r. ⌜ r ≡ marked (sideOf (tableOf n s t (now (tails .entry)) (now (heads .entry)) (now (capacities .entry))) (now (flow .entry))) t ⌝ }
+    ensures { λ r. ⌜ r ≡ marked (sideOf (lentTable n s t tails heads capacities) (before flow)) t ⌝ }
 {
     reach::mark(n, s, tails, heads, capacities, flow, lists, marks);
     marks[(t - 1) as usize] == 1
@@ -172,10 +153,10 @@ fn is_maximum(
     flow: &[u32],
     lists: &[u32],
 ) -> bool
-    requires { ⌜ Accepted (tableOf n s t (now tails) (now heads) (now capacities)) ⌝ }
-    requires { ⌜ InWork (tableOf n s t (now tails) (now heads) (now capacities)) (now lists) ⌝ }
+    requires { ⌜ Accepted (givenTable n s t tails heads capacities) ⌝ }
+    requires { ⌜ InWork (givenTable n s t tails heads capacities) (now lists) ⌝ }
     requires { ⌜ length (now capacities) ≤ length (now flow) ⌝ }
-    ensures { λ r. ⌜ r ≡ isMaximum (tableOf n s t (now (tails .entry)) (now (heads .entry)) (now (capacities .entry))) (now (flow .entry)) ⌝ }
+    ensures { λ r. ⌜ r ≡ isMaximum (lentTable n s t tails heads capacities) (before flow) ⌝ }
 {
     if !is_flow(n, s, t, tails, heads, capacities, flow) {
         return false;
@@ -199,10 +180,10 @@ fn change_verdict(
     flow: &[u32],
     lists: &[u32],
 ) -> Verdict
-    requires { ⌜ Accepted (tableOf n s t (now tails) (now heads) (now capacities)) ⌝ }
-    requires { ⌜ InWork (tableOf n s t (now tails) (now heads) (now capacities)) (now lists) ⌝ }
+    requires { ⌜ Accepted (givenTable n s t tails heads capacities) ⌝ }
+    requires { ⌜ InWork (givenTable n s t tails heads capacities) (now lists) ⌝ }
     requires { ⌜ length (now capacities) ≤ length (now flow) ⌝ }
-    ensures { λ r. ⌜ r ≡ changeVerdict (tableOf n s t (now (tails .entry)) (now (heads .entry)) (now (capacities .entry))) place capacity (now (flow .entry)) ⌝ }
+    ensures { λ r. ⌜ r ≡ changeVerdict (lentTable n s t tails heads capacities) place capacity (before flow) ⌝ }
 {
     let k = place as usize;
     if capacities.len() <= k {
@@ -254,12 +235,13 @@ fn go_on_rows(
     side: &mut [u8],
     work: &mut [u32],
 ) -> Answer
-    requires { ⌜ Accepted (tableOf n s t (now tails) (now heads) (now capacities)) ⌝ }
+    requires { ⌜ Accepted (givenTable n s t tails heads capacities) ⌝ }
     requires { ⌜ now minimums ≡ replicate (length (now capacities)) 0 ⌝ }
-    requires { ⌜ InWork (tableOf n s t (now tails) (now heads) (now capacities)) (now lists) ⌝ }
-    requires { ⌜ Flow (networkOf (tableOf n s t (now tails) (now heads) (now capacities))) (atPlace (now flow)) ⌝ }
-    requires { ⌜ (length (now flow) ≡ length (now capacities)) × (n ≤ length (now side)) × (workNeed n (length (now capacities)) ≤ length (now work)) ⌝ }
-    ensures { λ r. ⌜ left r (now (flow .exit)) (now (side .exit)) (now (work .exit)) ≡ wentOn (tableOf n s t (now (tails .entry)) (now (heads .entry)) (now (capacities .entry))) stamp (now (flow .entry)) (now (side .entry)) (now (work .entry)) ⌝ }
+    requires { ⌜ InWork (givenTable n s t tails heads capacities) (now lists) ⌝ }
+    requires { ⌜ Flow (networkOf (givenTable n s t tails heads capacities)) (atPlace (now flow)) ⌝ }
+    requires { ⌜ (length (now flow) ≡ length (now capacities)) × (n ≤ length (now side))
+        × (workNeed n (length (now capacities)) ≤ length (now work)) ⌝ }
+    ensures { λ r. ⌜ leftIn r flow side work ≡ wentOn (lentTable n s t tails heads capacities) stamp (before flow) (before side) (before work) ⌝ }
 {
     augment::go_on(n, s, t, tails, heads, capacities, minimums, flow, lists);
     let value = start::value(tails, heads, flow, s);
@@ -271,7 +253,7 @@ fn go_on_rows(
 // The old capacities with the new one at its place, into a row of as many.
 fn open_capacity(capacities: &[u32], place: usize, capacity: u32, row: &mut [u32])
     requires { ⌜ (length (now row) ≡ length (now capacities)) × (place < length (now capacities)) ⌝ }
-    ensures { λ _. ⌜ now (row .exit) ≡ set (now (capacities .entry)) place capacity ⌝ }
+    ensures { λ _. ⌜ after row ≡ set (before capacities) place capacity ⌝ }
 {
     rows::store(row, 0, capacities);
     row[place] = capacity;
@@ -295,10 +277,12 @@ fn open_rows(
     side: &mut [u8],
     work: &mut [u32],
 ) -> Answer
-    requires { ⌜ Opens (tableOf n s t (now tails) (now heads) (now capacities)) place capacity (now flow) (length (now side)) (length (now work)) ⌝ }
+    requires { ⌜ Opens (givenTable n s t tails heads capacities) place capacity (now flow) (length (now side)) (length (now work)) ⌝ }
     requires { ⌜ ((row : List ℕ) → length row ≡ length (now tails) → InWork (tableOf n s t (now tails) (now heads) row) (now lists)) ⌝ }
-    requires { ⌜ (length (now new) ≡ length (now capacities)) × (length (now flow) ≡ length (now capacities)) × (now minimums ≡ replicate (length (now capacities)) 0) ⌝ }
-    ensures { λ r. ⌜ left r (now (flow .exit)) (now (side .exit)) (now (work .exit)) ≡ wentOn (opened (tableOf n s t (now (tails .entry)) (now (heads .entry)) (now (capacities .entry))) place capacity) stamp (now (flow .entry)) (now (side .entry)) (now (work .entry)) ⌝ }
+    requires { ⌜ (length (now new) ≡ length (now capacities)) × (length (now flow) ≡ length (now capacities))
+        × (now minimums ≡ replicate (length (now capacities)) 0) ⌝ }
+    ensures { λ r. ⌜ (let table = lentTable n s t tails heads capacities in
+        leftIn r flow side work ≡ wentOn (opened table place capacity) stamp (before flow) (before side) (before work)) ⌝ }
 {
     open_capacity(capacities, place as usize, capacity, new);
     go_on_rows(
@@ -333,9 +317,10 @@ fn open_table(
     side: &mut [u8],
     work: &mut [u32],
 ) -> Answer
-    requires { ⌜ Opens (tableOf n s t (now tails) (now heads) (now capacities)) place capacity (now flow) (length (now side)) (length (now work)) ⌝ }
+    requires { ⌜ Opens (givenTable n s t tails heads capacities) place capacity (now flow) (length (now side)) (length (now work)) ⌝ }
     requires { ⌜ ((row : List ℕ) → length row ≡ length (now tails) → InWork (tableOf n s t (now tails) (now heads) row) (now lists)) ⌝ }
-    ensures { λ r. ⌜ left r (now (flow .exit)) (now (side .exit)) (now (work .exit)) ≡ wentOn (opened (tableOf n s t (now (tails .entry)) (now (heads .entry)) (now (capacities .entry))) place capacity) stamp (now (flow .entry)) (now (side .entry)) (now (work .entry)) ⌝ }
+    ensures { λ r. ⌜ (let table = lentTable n s t tails heads capacities in
+        leftIn r flow side work ≡ wentOn (opened table place capacity) stamp (before flow) (before side) (before work)) ⌝ }
 {
     let m = capacities.len();
     let mut new = [0u32; 4096];
@@ -375,10 +360,12 @@ fn open_listed(
     side: &mut [u8],
     work: &mut [u32],
 ) -> Answer
-    requires { ⌜ Accepted (tableOf n s t (now tails) (now heads) (now capacities)) ⌝ }
-    requires { ⌜ (length (now capacities) ≤ length (now flow)) × (n ≤ length (now side)) × (workNeed n (length (now capacities)) ≤ length (now work)) ⌝ }
+    requires { ⌜ Accepted (givenTable n s t tails heads capacities) ⌝ }
+    requires { ⌜ GivenRoom n capacities flow side work ⌝ }
     requires { ⌜ workEnd n (length (now tails)) ≤ length (now lists) ⌝ }
-    ensures { λ r. ⌜ left r (now (flow .exit)) (now (side .exit)) (now (work .exit)) ≡ openingAs (changeVerdict (tableOf n s t (now (tails .entry)) (now (heads .entry)) (now (capacities .entry))) place capacity (now (flow .entry))) (opened (tableOf n s t (now (tails .entry)) (now (heads .entry)) (now (capacities .entry))) place capacity) stamp (now (flow .entry)) (now (side .entry)) (now (work .entry)) ⌝ }
+    ensures { λ r. ⌜ (let table = lentTable n s t tails heads capacities in
+        leftIn r flow side work
+        ≡ openingAs (changeVerdict table place capacity (before flow)) (opened table place capacity) stamp (before flow) (before side) (before work)) ⌝ }
 {
     arcs::fill_work(n, tails, heads, lists);
     match change_verdict(
@@ -427,9 +414,11 @@ fn open_accepted(
     side: &mut [u8],
     work: &mut [u32],
 ) -> Answer
-    requires { ⌜ Accepted (tableOf n s t (now tails) (now heads) (now capacities)) ⌝ }
-    requires { ⌜ (length (now capacities) ≤ length (now flow)) × (n ≤ length (now side)) × (workNeed n (length (now capacities)) ≤ length (now work)) ⌝ }
-    ensures { λ r. ⌜ left r (now (flow .exit)) (now (side .exit)) (now (work .exit)) ≡ openingAs (changeVerdict (tableOf n s t (now (tails .entry)) (now (heads .entry)) (now (capacities .entry))) place capacity (now (flow .entry))) (opened (tableOf n s t (now (tails .entry)) (now (heads .entry)) (now (capacities .entry))) place capacity) stamp (now (flow .entry)) (now (side .entry)) (now (work .entry)) ⌝ }
+    requires { ⌜ Accepted (givenTable n s t tails heads capacities) ⌝ }
+    requires { ⌜ GivenRoom n capacities flow side work ⌝ }
+    ensures { λ r. ⌜ (let table = lentTable n s t tails heads capacities in
+        leftIn r flow side work
+        ≡ openingAs (changeVerdict table place capacity (before flow)) (opened table place capacity) stamp (before flow) (before side) (before work)) ⌝ }
 {
     let mut lists = [0u32; 4 * 512 + 2 * 4096 + 1];
     open_listed(
@@ -449,7 +438,8 @@ fn open_accepted(
     )
 }
 
-// Opens the arc at a place of the old table to a new capacity: goes on from the table's maximum flow along chains of fewest residual arcs, the first of them by their places, each filled by its least residual, until the sink can't be reached; or gives the first refusal, with nothing written.
+// Opens the arc at a place of the old table to a new capacity: goes on from the table's maximum flow along chains of fewest residual arcs,
+// the first of them by their places, each filled by its least residual, until the sink can't be reached; or gives the first refusal, with nothing written.
 pub fn open(
     n: u32,
     s: u32,
@@ -465,9 +455,11 @@ pub fn open(
     side: &mut [u8],
     work: &mut [u32],
 ) -> Answer
-    ensures exact { λ r. ⌜ left r (now (flow .exit)) (now (side .exit)) (now (work .exit)) ≡ opening (boundedOf n s t (now (tails .entry)) (now (heads .entry)) (now (capacities .entry)) (now (minimums .entry))) stamp place capacity (now (flow .entry)) (now (side .entry)) (now (work .entry)) ⌝ }
-    ensures best { λ r. ⌜ (r .refusal ≡ 0 → Reopens (tableOf n s t (now (tails .entry)) (now (heads .entry)) (now (capacities .entry))) (opened (tableOf n s t (now (tails .entry)) (now (heads .entry)) (now (capacities .entry))) place capacity) (now (flow .entry)) (left r (now (flow .exit)) (now (side .exit)) (now (work .exit)))) ⌝ }
-    ensures notmax { λ r. ⌜ (r .refusal ≡ 23 → MaximumFlow (tableOf n s t (now (tails .entry)) (now (heads .entry)) (now (capacities .entry))) (now (flow .entry)) → ⊥) ⌝ }
+    ensures exact { λ r. ⌜ (let table = lentBounded n s t tails heads capacities minimums in
+        leftIn r flow side work ≡ opening table stamp place capacity (before flow) (before side) (before work)) ⌝ }
+    ensures best { λ r. ⌜ (let table = lentTable n s t tails heads capacities in
+        r .refusal ≡ 0 → Reopens table (opened table place capacity) (before flow) (leftIn r flow side work)) ⌝ }
+    ensures notmax { λ r. ⌜ (r .refusal ≡ 23 → MaximumFlow (lentTable n s t tails heads capacities) (before flow) → ⊥) ⌝ }
 {
     let room = solver::has_room(n, capacities.len(), flow.len(), side.len(), work.len());
     match minimums::plain_check(n, tails, heads, capacities, minimums, s, t, room) {

@@ -1,6 +1,6 @@
 -- From a solved table with both sides marked to what the call promises.
 use Prim.Native.Nat.{ℕ, _≤_, _<_}
-use mathlib.Core.Path.{_≡_, sym, ap, _∙_}
+use mathlib.Core.Path.{_≡_, ap, _∙_}
 use mathlib.Core.Bool.{true, false}
 use mathlib.Core.List.{List, _++_}
 use native.Mathlib.Omega.{arith}
@@ -11,7 +11,7 @@ use lib.Seq.{take-all, take-at, take-append-le}
 use Rattle.rows.specs.Row.{atPlace}
 use Rattle.rows.proofs.Sums.{both-true}
 use Rattle.table.specs.Table.{Table, arcs, networkOf}
-use Rattle.table.specs.Accepted.{ArcRows, Accepted}
+use Rattle.table.specs.Accepted.{Accepted}
 use Rattle.reach.specs.Side.{turned, sideOf, sinkSideOf}
 use Rattle.reach.proofs.Side.{length-of-side}
 use Rattle.reach.proofs.Turning.{turned-sound}
@@ -22,23 +22,6 @@ use Rattle.solver.specs.declared.Answer.{Answer}
 use Rattle.solver.specs.Filled.{Filled}
 use Rattle.openings.specs.Sides.{Sides}
 use Rattle.openings.specs.Finding.{hasLists}
-
--- Rows of arcs are so with every arc the other way round.
-pub rows-turned : {n : ℕ} {tails heads capacities : List ℕ} → ArcRows n tails heads capacities → ArcRows n heads tails capacities
-rows-turned rows =
-    record {
-      ends =
-          record {
-            few-nodes = rows .ends .few-nodes;
-            few-arcs = omega (arith, rows .ends .few-arcs, rows .ends .heads-long);
-            heads-long = sym (rows .ends .heads-long);
-            tail-node = λ k l. rows .ends .head-node k (omega (arith, rows .ends .heads-long));
-            head-node = λ k l. rows .ends .tail-node k (omega (arith, rows .ends .heads-long));
-            no-loop = λ k l e. rows .ends .no-loop k (omega (arith, rows .ends .heads-long)) (sym e);
-          };
-      capacities-long = omega (arith, rows .capacities-long, rows .ends .heads-long);
-      small = rows .small;
-    }
 
 module _ (t : Table) (ok : Accepted t) where
   -- The flow has a number for each arc,

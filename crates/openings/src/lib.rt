@@ -6,17 +6,18 @@ ghost use mathlib.Core.Path.{_≡_};
 ghost use mathlib.Core.Bool.{true, _&&_};
 ghost use Prim.Native.Nat.{_≤_, _<_};
 ghost use lib.ListN.{length, take};
+ghost use Rattle.rows.specs.Lent.{before, after};
 ghost use Rattle.rows.specs.Row.{Node};
-ghost use Rattle.table.specs.Table.{tableOf};
+ghost use Rattle.table.specs.Table.{lentTable, givenTable};
 ghost use Rattle.table.specs.Accepted.{Accepted, ArcEnds};
-ghost use Rattle.minimums.specs.BoundedTable.{boundedOf};
+ghost use Rattle.minimums.specs.BoundedTable.{lentBounded};
 ghost use Rattle.arcs.specs.Work.{workNeed};
 ghost use Rattle.reach.specs.Side.{marked};
-ghost use Rattle.solver.specs.Solving.{refusal, left, Meets};
+ghost use Rattle.solver.specs.Solving.{refusal, Meets, leftIn, GivenRoom};
 ghost use Rattle.listing.specs.Passing.{filledWith};
 ghost use Rattle.openings.specs.Helping.{nodesIn, placesIn, HelpsExactly};
 ghost use Rattle.openings.specs.Sides.{Sides};
-ghost use Rattle.openings.specs.Finding.{leftOpenings, openingsWith, hasLists, Listed, handed, listsVerdict, findingAs, finding};
+ghost use Rattle.openings.specs.Finding.{openingsWith, hasLists, Listed, handed, listsVerdict, findingAs, finding, leftOpeningsIn};
 
 // What the call returns: solving's result, and how many numbers of each list were filled.
 #[repr(C)]
@@ -32,7 +33,7 @@ pub struct Openings {
 // How many nodes are marked.
 fn count_nodes(marks: &[u8]) -> u32
     requires { ⌜ length (now marks) ≤ 512 ⌝ }
-    ensures { λ r. ⌜ r ≡ length (nodesIn (now (marks .entry))) ⌝ }
+    ensures { λ r. ⌜ r ≡ length (nodesIn (before marks)) ⌝ }
 {
     let mut count: u32 = 0;
     let mut k = 0;
@@ -45,26 +46,15 @@ fn count_nodes(marks: &[u8]) -> u32
     count
 }
 
-// Whether an arc would help.
-fn helps(side: &[u8], drains: &[u8], tail: u32, head: u32) -> bool
-    requires { ⌜ Node (length (now side)) tail × Node (length (now drains)) head ⌝ }
-    ensures { λ r. ⌜ r ≡ (marked (now (side .entry)) tail && marked (now (drains .entry)) head) ⌝ }
-{
-    if side[(tail - 1) as usize] != 1 {
-        return false;
-    }
-    drains[(head - 1) as usize] == 1
-}
-
 // How many arcs would help.
 fn count_places(tails: &[u32], heads: &[u32], side: &[u8], drains: &[u8]) -> u32
     requires { ⌜ ArcEnds (length (now side)) (now tails) (now heads) × (length (now drains) ≡ length (now side)) ⌝ }
-    ensures { λ r. ⌜ r ≡ length (placesIn (now (side .entry)) (now (drains .entry)) (now (tails .entry)) (now (heads .entry))) ⌝ }
+    ensures { λ r. ⌜ r ≡ length (placesIn (before side) (before drains) (before tails) (before heads)) ⌝ }
 {
     let mut count: u32 = 0;
     let mut k = 0;
     while k < tails.len() {
-        if helps(side, drains, tails[k], heads[k]) {
+        if reach::both_mark(side, tails[k], drains, heads[k]) {
             count += 1;
         }
         k += 1;
@@ -75,7 +65,7 @@ fn count_places(tails: &[u32], heads: &[u32], side: &[u8], drains: &[u8]) -> u32
 // Fills a list with the marked nodes, rising.
 fn list_nodes(marks: &[u8], list: &mut [u32]) -> u32
     requires { ⌜ (length (now marks) ≤ 512) × (length (nodesIn (now marks)) ≤ length (now list)) ⌝ }
-    ensures { λ r. ⌜ (r ≡ length (nodesIn (now (marks .entry)))) × (now (list .exit) ≡ filledWith (nodesIn (now (marks .entry))) (now (list .entry))) ⌝ }
+    ensures { λ r. ⌜ (r ≡ length (nodesIn (before marks))) × (after list ≡ filledWith (nodesIn (before marks)) (before list)) ⌝ }
 {
     let mut count: u32 = 0;
     let mut k = 0;
@@ -93,12 +83,13 @@ fn list_nodes(marks: &[u8], list: &mut [u32]) -> u32
 fn list_places(tails: &[u32], heads: &[u32], side: &[u8], drains: &[u8], list: &mut [u32]) -> u32
     requires { ⌜ ArcEnds (length (now side)) (now tails) (now heads) × (length (now drains) ≡ length (now side)) ⌝ }
     requires { ⌜ length (placesIn (now side) (now drains) (now tails) (now heads)) ≤ length (now list) ⌝ }
-    ensures { λ r. ⌜ (r ≡ length (placesIn (now (side .entry)) (now (drains .entry)) (now (tails .entry)) (now (heads .entry)))) × (now (list .exit) ≡ filledWith (placesIn (now (side .entry)) (now (drains .entry)) (now (tails .entry)) (now (heads .entry))) (now (list .entry))) ⌝ }
+    ensures { λ r. ⌜ (let found = placesIn (before side) (before drains) (before tails) (before heads) in
+        (r ≡ length found) × (after list ≡ filledWith found (before list))) ⌝ }
 {
     let mut count: u32 = 0;
     let mut k = 0;
     while k < tails.len() {
-        if helps(side, drains, tails[k], heads[k]) {
+        if reach::both_mark(side, tails[k], drains, heads[k]) {
             list[count as usize] = k as u32;
             count += 1;
         }
@@ -123,9 +114,10 @@ fn mark_both(
     drains: &mut [u8],
     work: &mut [u32],
 ) -> Answer
-    requires { ⌜ Accepted (tableOf n s t (now tails) (now heads) (now capacities)) ⌝ }
-    requires { ⌜ (length (now flow) ≡ length (now capacities)) × (n ≤ length (now side)) × (n ≤ length (now drains)) × (workNeed n (length (now capacities)) ≤ length (now work)) ⌝ }
-    ensures { λ r. ⌜ Sides (tableOf n s t (now (tails .entry)) (now (heads .entry)) (now (capacities .entry))) stamp r (now (flow .exit)) (now (side .exit)) (now (drains .exit)) ⌝ }
+    requires { ⌜ Accepted (givenTable n s t tails heads capacities) ⌝ }
+    requires { ⌜ (length (now flow) ≡ length (now capacities)) × (n ≤ length (now side)) × (n ≤ length (now drains))
+        × (workNeed n (length (now capacities)) ≤ length (now work)) ⌝ }
+    ensures { λ r. ⌜ Sides (lentTable n s t tails heads capacities) stamp r (after flow) (after side) (after drains) ⌝ }
 {
     arcs::fill_work(n, tails, heads, work);
     let answer = solver::solve_filled(n, s, t, stamp, tails, heads, capacities, flow, side, work);
@@ -147,9 +139,10 @@ fn solve_sides(
     drains: &mut [u8],
     work: &mut [u32],
 ) -> Answer
-    requires { ⌜ Accepted (tableOf n s t (now tails) (now heads) (now capacities)) ⌝ }
-    requires { ⌜ (length (now capacities) ≤ length (now flow)) × (n ≤ length (now side)) × (n ≤ length (now drains)) × (workNeed n (length (now capacities)) ≤ length (now work)) ⌝ }
-    ensures { λ r. ⌜ Sides (tableOf n s t (now (tails .entry)) (now (heads .entry)) (now (capacities .entry))) stamp r (now (flow .exit)) (now (side .exit)) (now (drains .exit)) ⌝ }
+    requires { ⌜ Accepted (givenTable n s t tails heads capacities) ⌝ }
+    requires { ⌜ (length (now capacities) ≤ length (now flow)) × (n ≤ length (now side)) × (n ≤ length (now drains))
+        × (workNeed n (length (now capacities)) ≤ length (now work)) ⌝ }
+    ensures { λ r. ⌜ Sides (lentTable n s t tails heads capacities) stamp r (after flow) (after side) (after drains) ⌝ }
 {
     let m = capacities.len();
     mark_both(
@@ -178,7 +171,8 @@ fn has_lists(
     places: usize,
 ) -> bool
     requires { ⌜ ArcEnds (length (now side)) (now tails) (now heads) × (length (now drains) ≡ length (now side)) ⌝ }
-    ensures { λ r. ⌜ r ≡ hasLists (nodesIn (now (side .entry))) (nodesIn (now (drains .entry))) (placesIn (now (side .entry)) (now (drains .entry)) (now (tails .entry)) (now (heads .entry))) sources sinks places ⌝ }
+    ensures { λ r. ⌜ (let found = placesIn (before side) (before drains) (before tails) (before heads) in
+        r ≡ hasLists (nodesIn (before side)) (nodesIn (before drains)) found sources sinks places) ⌝ }
 {
     if sources < (count_nodes(side) as usize) {
         return false;
@@ -201,8 +195,11 @@ fn write_lists(
     places: &mut [u32],
 ) -> Openings
     requires { ⌜ ArcEnds (length (now side)) (now tails) (now heads) × (length (now drains) ≡ length (now side)) ⌝ }
-    requires { ⌜ hasLists (nodesIn (now side)) (nodesIn (now drains)) (placesIn (now side) (now drains) (now tails) (now heads)) (length (now sources)) (length (now sinks)) (length (now places)) ≡ true ⌝ }
-    ensures { λ r. ⌜ Listed (nodesIn (now (side .entry))) (nodesIn (now (drains .entry))) (placesIn (now (side .entry)) (now (drains .entry)) (now (tails .entry)) (now (heads .entry))) answer (now (sources .entry)) (now (sinks .entry)) (now (places .entry)) r (now (sources .exit)) (now (sinks .exit)) (now (places .exit)) ⌝ }
+    requires { ⌜ (let found = placesIn (now side) (now drains) (now tails) (now heads) in
+        hasLists (nodesIn (now side)) (nodesIn (now drains)) found (length (now sources)) (length (now sinks)) (length (now places)) ≡ true) ⌝ }
+    ensures { λ r. ⌜ (let found = placesIn (before side) (before drains) (before tails) (before heads) in
+        Listed (nodesIn (before side)) (nodesIn (before drains)) found answer (before sources) (before sinks) (before places)
+        r (after sources) (after sinks) (after places)) ⌝ }
 {
     let in_sources = list_nodes(side, sources);
     let in_sinks = list_nodes(drains, sinks);
@@ -243,9 +240,12 @@ fn hand_lists(
     sinks: &mut [u32],
     places: &mut [u32],
 ) -> Openings
-    requires { ⌜ ArcEnds n (now tails) (now heads) × (length (now tails) ≤ length (now flows)) × (n ≤ length (now marks)) × (n ≤ length (now drains)) ⌝ }
-    requires { ⌜ (length (now tails) ≤ length (now flow)) × (n ≤ length (now side)) × (workNeed n (length (now tails)) ≤ length (now work)) ⌝ }
-    ensures { λ r. ⌜ leftOpenings r (now (flow .exit)) (now (side .exit)) (now (work .exit)) (now (sources .exit)) (now (sinks .exit)) (now (places .exit)) ≡ handed n answer (now (tails .entry)) (now (heads .entry)) (take (length (now (tails .entry))) (now (flows .entry))) (take n (now (marks .entry))) (take n (now (drains .entry))) (now (flow .entry)) (now (side .entry)) (now (work .entry)) (now (sources .entry)) (now (sinks .entry)) (now (places .entry)) ⌝ }
+    requires { ⌜ ArcEnds n (now tails) (now heads) × (length (now tails) ≤ length (now flows)) × (n ≤ length (now marks))
+        × (n ≤ length (now drains)) ⌝ }
+    requires { ⌜ GivenRoom n tails flow side work ⌝ }
+    ensures { λ r. ⌜ leftOpeningsIn r flow side work sources sinks places
+        ≡ handed n answer (before tails) (before heads) (take (length (before tails)) (before flows)) (take n (before marks)) (take n (before drains))
+        (before flow) (before side) (before work) (before sources) (before sinks) (before places) ⌝ }
 {
     let nodes = n as usize;
     let room = has_lists(
@@ -289,9 +289,12 @@ fn find_accepted(
     sinks: &mut [u32],
     places: &mut [u32],
 ) -> Openings
-    requires { ⌜ Accepted (tableOf n s t (now tails) (now heads) (now capacities)) ⌝ }
-    requires { ⌜ (length (now capacities) ≤ length (now flow)) × (n ≤ length (now side)) × (workNeed n (length (now capacities)) ≤ length (now work)) ⌝ }
-    ensures { λ r. ⌜ leftOpenings r (now (flow .exit)) (now (side .exit)) (now (work .exit)) (now (sources .exit)) (now (sinks .exit)) (now (places .exit)) ≡ findingAs (listsVerdict (tableOf n s t (now (tails .entry)) (now (heads .entry)) (now (capacities .entry))) (length (now (sources .entry))) (length (now (sinks .entry))) (length (now (places .entry)))) (tableOf n s t (now (tails .entry)) (now (heads .entry)) (now (capacities .entry))) stamp (now (flow .entry)) (now (side .entry)) (now (work .entry)) (now (sources .entry)) (now (sinks .entry)) (now (places .entry)) ⌝ }
+    requires { ⌜ Accepted (givenTable n s t tails heads capacities) ⌝ }
+    requires { ⌜ GivenRoom n capacities flow side work ⌝ }
+    ensures { λ r. ⌜ (let table = lentTable n s t tails heads capacities in
+        leftOpeningsIn r flow side work sources sinks places
+        ≡ findingAs (listsVerdict table (length (before sources)) (length (before sinks)) (length (before places))) table stamp
+        (before flow) (before side) (before work) (before sources) (before sinks) (before places)) ⌝ }
 {
     let mut flows = [0u32; 4096];
     let mut marks = [0u8; 512];
@@ -344,8 +347,11 @@ pub fn find_openings(
     sinks: &mut [u32],
     places: &mut [u32],
 ) -> Openings
-    ensures exact { λ r. ⌜ leftOpenings r (now (flow .exit)) (now (side .exit)) (now (work .exit)) (now (sources .exit)) (now (sinks .exit)) (now (places .exit)) ≡ finding (boundedOf n s t (now (tails .entry)) (now (heads .entry)) (now (capacities .entry)) (now (minimums .entry))) stamp (now (flow .entry)) (now (side .entry)) (now (work .entry)) (now (sources .entry)) (now (sinks .entry)) (now (places .entry)) ⌝ }
-    ensures best { λ r. ⌜ (r .answer .refusal ≡ 0 → Meets (tableOf n s t (now (tails .entry)) (now (heads .entry)) (now (capacities .entry))) (left (r .answer) (now (flow .exit)) (now (side .exit)) (now (work .exit))) × HelpsExactly (tableOf n s t (now (tails .entry)) (now (heads .entry)) (now (capacities .entry)))) ⌝ }
+    ensures exact { λ r. ⌜ (let table = lentBounded n s t tails heads capacities minimums in
+        leftOpeningsIn r flow side work sources sinks places
+        ≡ finding table stamp (before flow) (before side) (before work) (before sources) (before sinks) (before places)) ⌝ }
+    ensures best { λ r. ⌜ (let table = lentTable n s t tails heads capacities in
+        r .answer .refusal ≡ 0 → Meets table (leftIn (r .answer) flow side work) × HelpsExactly table) ⌝ }
 {
     let room = solver::has_room(n, capacities.len(), flow.len(), side.len(), work.len());
     match minimums::plain_check(n, tails, heads, capacities, minimums, s, t, room) {

@@ -4,6 +4,7 @@ ghost use Prim.Native.Nat.{ℕ, _+_, _*_, _≤_, _<_};
 ghost use mathlib.Core.Path.{_≡_};
 ghost use mathlib.Core.List.{[], _∷_};
 ghost use lib.ListN.{length};
+ghost use Rattle.rows.specs.Lent.{before, after};
 ghost use Rattle.rows.specs.Row.{atPlace};
 ghost use Rattle.table.specs.Accepted.{ArcEnds, ArcRows};
 ghost use Rattle.pairs.specs.Places.{isNode, firstTo, chainOf, Leads, Places, Built, roomAt, pairCapacity, Takes, Zeros};
@@ -26,7 +27,7 @@ fn chain_of(a: u32, b: u32) -> usize
 // The first arc with this head in the chain that begins here, its place counted from 1; 0 where there is none.
 fn find_from(heads: &[u32], next: &[u32], b: u32, from: u32) -> u32
     requires { ⌜ ((k : ℕ) → atPlace (now next) k ≤ k) × (from ≤ length (now heads)) × (length (now heads) ≤ length (now next)) ⌝ }
-    ensures { λ r. ⌜ ((found : ℕ) → Leads (now (heads .entry)) (now (next .entry)) b from found → r ≡ found) ⌝ }
+    ensures { λ r. ⌜ ((found : ℕ) → Leads (before heads) (before next) b from found → r ≡ found) ⌝ }
 {
     let mut at = from;
     while 0 < at {
@@ -42,7 +43,7 @@ fn find_from(heads: &[u32], next: &[u32], b: u32, from: u32) -> u32
 // The place of a pair, counted from 1; 0 where no arc has it.
 fn find_pair(n: u32, heads: &[u32], first: &[u32], next: &[u32], a: u32, b: u32) -> u32
     requires { ⌜ ((place : ℕ → ℕ → ℕ) × Places n (now heads) (now first) (now next) place) ⌝ }
-    ensures { λ r. ⌜ ((place : ℕ → ℕ → ℕ) → Places n (now (heads .entry)) (now (first .entry)) (now (next .entry)) place → r ≡ place a b) ⌝ }
+    ensures { λ r. ⌜ ((place : ℕ → ℕ → ℕ) → Places n (before heads) (before first) (before next) place → r ≡ place a b) ⌝ }
 {
     if !is_node(n, a) {
         return 0;
@@ -61,7 +62,7 @@ fn index_arc(
 )
     requires { ⌜ ArcEnds n (now tails) (now heads) × (place < length (now tails)) ⌝ }
     requires { ⌜ Built n place (now tails) (now heads) (now first) (now next) ⌝ }
-    ensures { λ _. ⌜ Built n (place + 1) (now (tails .entry)) (now (heads .entry)) (now (first .exit)) (now (next .exit)) ⌝ }
+    ensures { λ _. ⌜ Built n (place + 1) (before tails) (before heads) (after first) (after next) ⌝ }
 {
     if find_pair(n, heads, first, next, tails[place], heads[place]) != 0 {
         return;
@@ -75,7 +76,8 @@ fn index_arc(
 pub fn index_arcs(n: u32, tails: &[u32], heads: &[u32], first: &mut [u32], next: &mut [u32])
     requires { ⌜ ArcEnds n (now tails) (now heads) × (n * 8 ≤ length (now first)) × (length (now tails) ≤ length (now next)) ⌝ }
     requires { ⌜ Zeros (now first) × Zeros (now next) ⌝ }
-    ensures { λ _. ⌜ Places n (now (heads .entry)) (now (first .exit)) (now (next .exit)) (firstTo (atPlace (now (tails .entry))) (atPlace (now (heads .entry))) (length (now (tails .entry)))) ⌝ }
+    ensures { λ _. ⌜ (let place = firstTo (atPlace (before tails)) (atPlace (before heads)) (length (before tails)) in
+        Places n (before heads) (after first) (after next) place) ⌝ }
 {
     let mut place: usize = 0;
     while place < tails.len() {
@@ -96,7 +98,8 @@ pub fn fill_room(
 )
     requires { ⌜ ArcRows n (now tails) (now heads) (now capacities) × (length (now tails) ≤ length (now room)) × Zeros (now room) ⌝ }
     requires { ⌜ Places n (now heads) (now first) (now next) (firstTo (atPlace (now tails)) (atPlace (now heads)) (length (now tails))) ⌝ }
-    ensures { λ _. ⌜ ((a b : ℕ) → roomAt (firstTo (atPlace (now (tails .entry))) (atPlace (now (heads .entry))) (length (now (tails .entry)))) (now (room .exit)) a b ≡ pairCapacity (now (tails .entry)) (now (heads .entry)) (now (capacities .entry)) a b) ⌝ }
+    ensures { λ _. ⌜ (let place = firstTo (atPlace (before tails)) (atPlace (before heads)) (length (before tails)) in
+        (a b : ℕ) → roomAt place (after room) a b ≡ pairCapacity (before tails) (before heads) (before capacities) a b) ⌝ }
 {
     let mut place: usize = 0;
     while place < capacities.len() {
@@ -116,7 +119,8 @@ pub fn take_pair(
     room: &mut [u32],
 ) -> bool
     requires { ⌜ ((place : ℕ → ℕ → ℕ) × Places n (now heads) (now first) (now next) place) × (length (now heads) ≤ length (now room)) ⌝ }
-    ensures { λ r. ⌜ ((place : ℕ → ℕ → ℕ) → Places n (now (heads .entry)) (now (first .entry)) (now (next .entry)) place → Takes place (now (room .entry)) (x ∷ []) r (now (room .exit))) ⌝ }
+    ensures { λ r. ⌜ ((place : ℕ → ℕ → ℕ) → Places n (before heads) (before first) (before next) place
+        → Takes place (before room) (x ∷ []) r (after room)) ⌝ }
 {
     let flow = x.flow;
     let found = find_pair(n, heads, first, next, x.tail, x.head);

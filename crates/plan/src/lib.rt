@@ -8,13 +8,14 @@ ghost use mathlib.Core.Path.{_≡_};
 ghost use mathlib.Core.Bool.{true, false, not, _&&_};
 ghost use lib.Dec.{eqb};
 ghost use lib.ListN.{length};
+ghost use Rattle.rows.specs.Lent.{before, after};
 ghost use Rattle.rows.specs.Row.{Node, atPlace};
 ghost use Rattle.rows.specs.Sum.{only};
 ghost use Rattle.network.specs.Network.{leaving};
-ghost use Rattle.table.specs.Table.{tableOf, networkOf};
+ghost use Rattle.table.specs.Table.{networkOf, lentTable, givenTable};
 ghost use Rattle.table.specs.Accepted.{Accepted, ArcRows};
 ghost use Rattle.table.specs.Refusals.{numberOf};
-ghost use Rattle.minimums.specs.BoundedTable.{boundedOf};
+ghost use Rattle.minimums.specs.BoundedTable.{lentBounded};
 ghost use Rattle.reach.specs.Side.{marked};
 ghost use Rattle.scan.specs.Parts.{lines};
 ghost use Rattle.amounts.specs.Lines.{amountIn, amountsOf, judged};
@@ -37,7 +38,7 @@ pub struct Checked {
 // Adds x at node i of a row by node, if that is a node.
 fn add_at(n: u32, i: u32, x: u32, row: &mut [u64])
     requires { ⌜ (n ≤ 512) × (length (now row) ≡ 512) × AtMost 4503599627370496 (now row) ⌝ }
-    ensures { λ _. ⌜ Adds n (now (row .entry)) (now (row .exit)) (λ j. only (eqb i j) x) ⌝ }
+    ensures { λ _. ⌜ Adds n (before row) (after row) (λ j. only (eqb i j) x) ⌝ }
 {
     if pairs::is_node(n, i) {
         let at = (i - 1) as usize;
@@ -59,9 +60,10 @@ fn take_kind(
 ) -> bool
     requires { ⌜ ((place : ℕ → ℕ → ℕ) × Places n (now heads) (now first) (now next) place) ⌝ }
     requires { ⌜ Rows n (length (now heads)) (now room) (now out) (now into) × AtMost 4503599627370496 (now out) × AtMost 4503599627370496 (now into) ⌝ }
-    ensures outs { λ _. ⌜ Adds n (now (out .entry)) (now (out .exit)) (outSum (amountIn kind)) ⌝ }
-    ensures intos { λ _. ⌜ Adds n (now (into .entry)) (now (into .exit)) (intoSum (amountIn kind)) ⌝ }
-    ensures pairs { λ r. ⌜ ((place : ℕ → ℕ → ℕ) → Places n (now (heads .entry)) (now (first .entry)) (now (next .entry)) place → (fits ≡ true → Takes place (now (room .entry)) (amountIn kind) r (now (room .exit))) × (fits ≡ false → r ≡ false)) ⌝ }
+    ensures outs { λ _. ⌜ Adds n (before out) (after out) (outSum (amountIn kind)) ⌝ }
+    ensures intos { λ _. ⌜ Adds n (before into) (after into) (intoSum (amountIn kind)) ⌝ }
+    ensures pairs { λ r. ⌜ ((place : ℕ → ℕ → ℕ) → Places n (before heads) (before first) (before next) place
+        → (fits ≡ true → Takes place (before room) (amountIn kind) r (after room)) × (fits ≡ false → r ≡ false)) ⌝ }
 {
     let Kind::FlowLine(x) = kind else {
         return fits;
@@ -87,9 +89,10 @@ fn take_amounts(
 ) -> bool
     requires { ⌜ ((place : ℕ → ℕ → ℕ) × Places n (now heads) (now first) (now next) place) ⌝ }
     requires { ⌜ Rows n (length (now heads)) (now room) (now out) (now into) × (length (now text) ≤ 1048576) × Zeros (now out) × Zeros (now into) ⌝ }
-    ensures outs { λ _. ⌜ HoldsAt n (now (out .exit)) (outSum (amountsOf (lines (now (text .entry))))) ⌝ }
-    ensures intos { λ _. ⌜ HoldsAt n (now (into .exit)) (intoSum (amountsOf (lines (now (text .entry))))) ⌝ }
-    ensures pairs { λ r. ⌜ ((place : ℕ → ℕ → ℕ) → Places n (now (heads .entry)) (now (first .entry)) (now (next .entry)) place → TookAll place (now (room .entry)) (amountsOf (lines (now (text .entry)))) r) ⌝ }
+    ensures outs { λ _. ⌜ HoldsAt n (after out) (outSum (amountsOf (lines (before text)))) ⌝ }
+    ensures intos { λ _. ⌜ HoldsAt n (after into) (intoSum (amountsOf (lines (before text)))) ⌝ }
+    ensures pairs { λ r. ⌜ ((place : ℕ → ℕ → ℕ) → Places n (before heads) (before first) (before next) place
+        → TookAll place (before room) (amountsOf (lines (before text))) r) ⌝ }
 {
     let mut fits = true;
     let mut at: usize = 0;
@@ -114,9 +117,9 @@ fn take_text(
 ) -> bool
     requires { ⌜ ArcRows n (now tails) (now heads) (now capacities) × (length (now text) ≤ 1048576) ⌝ }
     requires { ⌜ (length (now out) ≡ 512) × (length (now into) ≡ 512) × Zeros (now out) × Zeros (now into) ⌝ }
-    ensures outs { λ _. ⌜ HoldsAt n (now (out .exit)) (outSum (amountsOf (lines (now (text .entry))))) ⌝ }
-    ensures intos { λ _. ⌜ HoldsAt n (now (into .exit)) (intoSum (amountsOf (lines (now (text .entry))))) ⌝ }
-    ensures pairs { λ r. ⌜ IsBelow (now (tails .entry)) (now (heads .entry)) (now (capacities .entry)) (amountsOf (lines (now (text .entry)))) r ⌝ }
+    ensures outs { λ _. ⌜ HoldsAt n (after out) (outSum (amountsOf (lines (before text)))) ⌝ }
+    ensures intos { λ _. ⌜ HoldsAt n (after into) (intoSum (amountsOf (lines (before text)))) ⌝ }
+    ensures pairs { λ r. ⌜ IsBelow (before tails) (before heads) (before capacities) (amountsOf (lines (before text))) r ⌝ }
 {
     let mut first = [0u32; 4096];
     let mut next = [0u32; 4096];
@@ -142,7 +145,7 @@ fn is_even(i: u32, s: u32, t: u32, into: u64, out: u64) -> bool
 // Does what goes into each inner node go out of it?
 fn is_kept(n: u32, s: u32, t: u32, out: &[u64], into: &[u64]) -> bool
     requires { ⌜ (n ≤ 512) × (length (now out) ≡ 512) × (length (now into) ≡ 512) ⌝ }
-    ensures { λ r. ⌜ IsKept n s t (now (out .entry)) (now (into .entry)) r ⌝ }
+    ensures { λ r. ⌜ IsKept n s t (before out) (before into) r ⌝ }
 {
     let mut at: usize = 0;
     while at < (n as usize) {
@@ -159,7 +162,7 @@ fn is_kept(n: u32, s: u32, t: u32, out: &[u64], into: &[u64]) -> bool
 // Is node i marked?
 fn is_marked(side: &[u8], i: u32) -> bool
     requires { ⌜ Node (length (now side)) i ⌝ }
-    ensures { λ r. ⌜ r ≡ marked (now (side .entry)) i ⌝ }
+    ensures { λ r. ⌜ r ≡ marked (before side) i ⌝ }
 {
     side[(i - 1) as usize] == 1
 }
@@ -167,7 +170,7 @@ fn is_marked(side: &[u8], i: u32) -> bool
 // The capacity of an arc that goes from a marked to an unmarked node, and 0 of another.
 fn crossing(side: &[u8], tail: u32, head: u32, capacity: u32) -> u64
     requires { ⌜ Node (length (now side)) tail × Node (length (now side)) head ⌝ }
-    ensures { λ r. ⌜ r ≡ only (marked (now (side .entry)) tail && not (marked (now (side .entry)) head)) capacity ⌝ }
+    ensures { λ r. ⌜ r ≡ only (marked (before side) tail && not (marked (before side) head)) capacity ⌝ }
 {
     if !is_marked(side, tail) {
         return 0;
@@ -189,7 +192,7 @@ fn cut_capacity(
     side: &[u8],
 ) -> u64
     requires { ⌜ ArcRows n (now tails) (now heads) (now capacities) × (n ≤ length (now side)) ⌝ }
-    ensures { λ r. ⌜ r ≡ leaving (networkOf (tableOf n s t (now (tails .entry)) (now (heads .entry)) (now (capacities .entry)))) (marked (now (side .entry))) (atPlace (now (capacities .entry))) ⌝ }
+    ensures { λ r. ⌜ r ≡ leaving (networkOf (lentTable n s t tails heads capacities)) (marked (before side)) (atPlace (before capacities)) ⌝ }
 {
     let mut total: u64 = 0;
     let mut place: usize = 0;
@@ -221,8 +224,8 @@ fn sums_fit(
     text: &[u8],
     value: u32,
 ) -> bool
-    requires { ⌜ Accepted (tableOf n s t (now tails) (now heads) (now capacities)) × (length (now text) ≤ 1048576) ⌝ }
-    ensures { λ r. ⌜ Decides r (SumsFit (tableOf n s t (now (tails .entry)) (now (heads .entry)) (now (capacities .entry))) value (amountsOf (lines (now (text .entry))))) ⌝ }
+    requires { ⌜ Accepted (givenTable n s t tails heads capacities) × (length (now text) ≤ 1048576) ⌝ }
+    ensures { λ r. ⌜ Decides r (SumsFit (lentTable n s t tails heads capacities) value (amountsOf (lines (before text)))) ⌝ }
 {
     let mut out = [0u64; 512];
     let mut into = [0u64; 512];
@@ -247,8 +250,8 @@ fn cut_fits(
     value: u32,
     side: &[u8],
 ) -> bool
-    requires { ⌜ Accepted (tableOf n s t (now tails) (now heads) (now capacities)) × (n ≤ length (now side)) ⌝ }
-    ensures { λ r. ⌜ Decides r (CutFits (tableOf n s t (now (tails .entry)) (now (heads .entry)) (now (capacities .entry))) value (now (side .entry))) ⌝ }
+    requires { ⌜ Accepted (givenTable n s t tails heads capacities) × (n ≤ length (now side)) ⌝ }
+    ensures { λ r. ⌜ Decides r (CutFits (lentTable n s t tails heads capacities) value (before side)) ⌝ }
 {
     if !is_marked(side, s) {
         return false;
@@ -271,8 +274,8 @@ fn full_flag(
     value: u32,
     side: &[u8],
 ) -> u32
-    requires { ⌜ Accepted (tableOf n s t (now tails) (now heads) (now capacities)) × (n ≤ length (now side)) × (length (now text) ≤ 1048576) ⌝ }
-    ensures { λ r. ⌜ Flags r (Full (tableOf n s t (now (tails .entry)) (now (heads .entry)) (now (capacities .entry))) value (amountsOf (lines (now (text .entry)))) (now (side .entry))) ⌝ }
+    requires { ⌜ Accepted (givenTable n s t tails heads capacities) × (n ≤ length (now side)) × (length (now text) ≤ 1048576) ⌝ }
+    ensures { λ r. ⌜ Flags r (Full (lentTable n s t tails heads capacities) value (amountsOf (lines (before text))) (before side)) ⌝ }
 {
     if !sums_fit(n, s, t, tails, heads, capacities, text, value) {
         return 0;
@@ -307,8 +310,10 @@ fn check_text(
     text: &[u8],
     side: &[u8],
 ) -> Checked
-    requires { ⌜ Accepted (tableOf n s t (now tails) (now heads) (now capacities)) × (n ≤ length (now side)) × (length (now text) ≤ 1048576) ⌝ }
-    ensures { λ r. ⌜ Answers (linesVerdict (judged (now (text .entry)))) (judged (now (text .entry))) (tableOf n s t (now (tails .entry)) (now (heads .entry)) (now (capacities .entry))) (now (text .entry)) (now (side .entry)) r ⌝ }
+    requires { ⌜ Accepted (givenTable n s t tails heads capacities) × (n ≤ length (now side)) × (length (now text) ≤ 1048576) ⌝ }
+    ensures { λ r. ⌜ (let table = lentTable n s t tails heads capacities in
+        let said = judged (before text) in
+        Answers (linesVerdict said) said table (before text) (before side) r) ⌝ }
 {
     match amounts::judge_lines(text) {
         Judged::Fault(place) => not_checked(Name::Solution, place),
@@ -332,7 +337,7 @@ pub fn check_plan(
     text: &[u8],
     side: &[u8],
 ) -> Checked
-    ensures { λ r. ⌜ Checks (boundedOf n s t (now (tails .entry)) (now (heads .entry)) (now (capacities .entry)) (now (minimums .entry))) (now (text .entry)) (now (side .entry)) r ⌝ }
+    ensures { λ r. ⌜ Checks (lentBounded n s t tails heads capacities minimums) (before text) (before side) r ⌝ }
 {
     match intake::text_verdict(
         n,

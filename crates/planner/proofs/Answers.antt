@@ -3,28 +3,22 @@ use Prim.Native.Nat.{ℕ, _≤_}
 use mathlib.Core.Path.{_≡_, refl, sym, ap, ap₂, subst, _∙_}
 use mathlib.Core.Bool.{Bool, true, false, _&&_}
 use mathlib.Core.List.{List}
-use native.Mathlib.Omega.{arith}
-use borrow.Author.Tests.{eq-eqb, eqb-true}
+use borrow.Author.Tests.{eq-eqb}
 use lib.Dec.{eqb}
 use lib.IntN.{ℤ}
 use mir.Syntax.{w64}
 use mir.Val.{toZ, ofZ}
 use lib.ListN.{length}
 use Rattle.rows.specs.Row.{cleared}
-use Rattle.rows.specs.Sum.{sum}
-use Rattle.rows.proofs.Sums.{sum-mono, only-le, both-true}
-use Rattle.network.specs.Network.{Network, leaving, leaves}
-use Rattle.table.specs.Table.{Table, arcs, capacity, networkOf}
-use Rattle.table.specs.Checks.{isFine, orElse, checkOf}
+use Rattle.table.specs.Table.{Table, arcs}
+use Rattle.table.specs.Checks.{isFine}
 use Rattle.table.specs.Accepted.{Accepted}
 use Rattle.table.specs.declared.Name.{Name}
 use Rattle.table.specs.declared.Name.the-variants.{Impossible as ImpossibleName}
 use Rattle.table.specs.declared.Verdict.{Verdict}
 use Rattle.table.specs.declared.Verdict.the-variants.{Fine, Refused}
-use Rattle.reach.specs.Side.{sideOf, marked}
 use Rattle.run.specs.Phase.{run, value}
-use Rattle.run.proofs.Answers.{run-best}
-use Rattle.run.proofs.Whole.{capacity-in-all}
+use Rattle.run.proofs.Answers.{run-value}
 use Rattle.arcs.specs.Work.{workNeed}
 use Rattle.solver.specs.Solving.{Left, left, hasRoom, refusal, solvingVerdict, solved, answerWith}
 use Rattle.solver.specs.declared.Answer.{Answer}
@@ -41,21 +35,6 @@ use Rattle.minimums.proofs.Faults.{bounded-accepts}
 use Rattle.minimums.proofs.Accepting.{plain-check}
 
 -- ---- document 01's value fits
-
--- What leaves a cut is at most all capacities.
-leaving-most : (N : Network) (X : ℕ → Bool) (f : ℕ → ℕ) → leaving N X f ≤ sum (N .m) f
-unfolding leaving
-leaving-most N X f = sum-mono (N .m) _ _ (λ k _. only-le (leaves N X k) (f k))
-
--- The run's value is at most 4,096,000,000.
-run-value : (t : Table) → Accepted t → value t (run t .state .flow) ≤ 4096000000
-run-value t ok =
-    omega (
-      arith,
-      run-best t ok .cut,
-      leaving-most (networkOf t) (marked (sideOf t (run t .state .flow))) (capacity t),
-      capacity-in-all t ok,
-    )
 
 -- So is the value of a solved table.
 pub solved-value : (t : Table) → Accepted t → (stamp : ℕ) (flow side work : List ℕ) → solved t stamp flow side work .answer .value ≤ 4096000000

@@ -12,10 +12,10 @@ use Rattle.table.specs.Accepted.{Accepted}
 use Rattle.run.specs.Phase.{run}
 use Rattle.run.proofs.Answers.{run-best, run-fits}
 use Rattle.solver.specs.Solving.{solved}
-use Rattle.bounded.specs.Bounded.{boundedNetwork}
+use Rattle.feasible.specs.Flows.{boundedNetwork}
 use Rattle.minimums.specs.BoundedTable.{BoundedTable, AcceptedBounded}
-use Rattle.bounded.specs.Solving.{First}
-use Rattle.bounded.proofs.Largest.{table-accepted}
+use Rattle.feasible.specs.Deciding.{First}
+use Rattle.feasible.proofs.Accepting.{table-accepted}
 
 -- The minimums change neither what enters a node,
 same-in : (b : BoundedTable) (f : ℕ → ℕ) (i : ℕ) → inflow (networkOf (b .table)) f i ≡ inflow (boundedNetwork b) f i

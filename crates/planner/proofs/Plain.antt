@@ -17,7 +17,8 @@ use Rattle.reach.specs.Side.{sideOf, sideFrom}
 use Rattle.run.specs.Phase.{run, value}
 use Rattle.run.proofs.Answers.{run-best}
 use Rattle.shortest.proofs.Instances.{no-minimums}
-use Rattle.bounded.specs.Bounded.{boundedNetwork, GreatestBounded}
+use Rattle.feasible.specs.Flows.{boundedNetwork}
+use Rattle.bounded.specs.Bounded.{GreatestBounded}
 use Rattle.minimums.specs.BoundedTable.{BoundedTable, AcceptedBounded}
 use Rattle.bounded.proofs.Largest.{greatest-bounded}
 use Rattle.bounded.proofs.Signed.{at-least}

@@ -9,9 +9,9 @@ use Rattle.rows.specs.Sum.{only}
 use Rattle.rows.proofs.Sums.{by-test, by-equal, only-plus, only-le, put-same, put-other, sum-change}
 use Rattle.network.specs.Network.{Network, Flow, Maximum, Cut, Reach, source, along, Reached, ToSink, arrived, onward, SinkReached, Answer, inflow, outflow, leaves, leaving, entering, nearEnd, farEnd, residualOver}
 use Rattle.network.proofs.Notions.{Sound, NoMinimums, Closed}
-use Rattle.network.proofs.Cuts.{strong-duality, weak-duality, closed-maximum}
+use Rattle.network.proofs.Cuts.{strong-duality, weak-duality, closed-maximum, reach-closed}
 use Rattle.raising.specs.Raising.{raisedAt, ValueRises, RisesBy, helpsIn}
-use Rattle.raising.proofs.Existence.{reach-closed, largest-exists, maximum-unreached}
+use Rattle.raising.proofs.Existence.{largest-exists, maximum-unreached}
 
 module _ (N : Network) (a : ℕ) where
   -- The raised network is sound where the old one is.

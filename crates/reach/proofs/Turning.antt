@@ -3,10 +3,12 @@ use Prim.Native.Nat.{ℕ, _<_}
 use mathlib.Core.Path.{sym}
 use mathlib.Core.Bool.{Bool, true, false}
 use mathlib.Core.List.{List}
+use native.Mathlib.Omega.{arith}
 use Rattle.rows.specs.Row.{atPlace}
 use Rattle.network.specs.Network.{Network, Reach, source, along, ToSink, arrived, onward, SinkReached, nearEnd, farEnd, residualOver}
 use Rattle.network.proofs.Notions.{Sound}
 use Rattle.table.specs.Table.{Table, networkOf}
+use Rattle.table.specs.Accepted.{ArcRows}
 use Rattle.reach.specs.Side.{marked, turned, sinkSideOf}
 use Rattle.reach.proofs.Side.{side-reached}
 
@@ -68,4 +70,21 @@ sink-side-reached t sound flow =
     record {
       into = λ i way. exact .into i (to-sink-reach (networkOf t) (atPlace flow) way);
       from = λ i e. reach-to-sink (networkOf t) (atPlace flow) (exact .from i e);
+    }
+
+-- Rows of arcs are so with every arc the other way round.
+pub rows-turned : {n : ℕ} {tails heads capacities : List ℕ} → ArcRows n tails heads capacities → ArcRows n heads tails capacities
+rows-turned rows =
+    record {
+      ends =
+          record {
+            few-nodes = rows .ends .few-nodes;
+            few-arcs = omega (arith, rows .ends .few-arcs, rows .ends .heads-long);
+            heads-long = sym (rows .ends .heads-long);
+            tail-node = λ k l. rows .ends .head-node k (omega (arith, rows .ends .heads-long));
+            head-node = λ k l. rows .ends .tail-node k (omega (arith, rows .ends .heads-long));
+            no-loop = λ k l e. rows .ends .no-loop k (omega (arith, rows .ends .heads-long)) (sym e);
+          };
+      capacities-long = omega (arith, rows .capacities-long, rows .ends .heads-long);
+      small = rows .small;
     }

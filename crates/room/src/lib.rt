@@ -8,9 +8,10 @@ ghost use mathlib.Core.Bool.{cond};
 ghost use Prim.Native.Nat.{_^_, _≤_, _<_};
 ghost use lib.Dec.{leb};
 ghost use lib.ListN.{length};
-ghost use Rattle.table.specs.Table.{tableOf};
+ghost use Rattle.rows.specs.Lent.{before, after};
+ghost use Rattle.table.specs.Table.{lentTable, givenTable};
 ghost use Rattle.table.specs.Accepted.{Accepted};
-ghost use Rattle.minimums.specs.BoundedTable.{boundedOf};
+ghost use Rattle.minimums.specs.BoundedTable.{lentBounded};
 ghost use Rattle.asking.specs.Asking.{roomLeft, roomNeed, hasWork, refusal, answerWith, asking, Says};
 ghost use Rattle.room.specs.Steps.{Halted};
 
@@ -89,9 +90,9 @@ fn halt_rows(
     flow: &mut [u32],
     work: &mut [u32],
 ) -> Stop
-    requires { ⌜ Accepted (tableOf n s t (now tails) (now heads) (now capacities)) ⌝ }
+    requires { ⌜ Accepted (givenTable n s t tails heads capacities) ⌝ }
     requires { ⌜ (length (now capacities) ≤ length (now flow)) × (roomNeed n (length (now capacities)) ≤ length (now work)) ⌝ }
-    ensures { λ r. ⌜ Halted (tableOf n s t (now (tails .entry)) (now (heads .entry)) (now (capacities .entry))) q (now (work .entry)) r (now (work .exit)) ⌝ }
+    ensures { λ r. ⌜ Halted (lentTable n s t tails heads capacities) q (before work) r (after work) ⌝ }
 {
     let m = capacities.len();
     arcs::fill_work(n, tails, heads, work);
@@ -111,8 +112,8 @@ fn halt(
     q: u64,
     work: &mut [u32],
 ) -> Stop
-    requires { ⌜ Accepted (tableOf n s t (now tails) (now heads) (now capacities)) × (roomNeed n (length (now capacities)) ≤ length (now work)) ⌝ }
-    ensures { λ r. ⌜ Halted (tableOf n s t (now (tails .entry)) (now (heads .entry)) (now (capacities .entry))) q (now (work .entry)) r (now (work .exit)) ⌝ }
+    requires { ⌜ Accepted (givenTable n s t tails heads capacities) × (roomNeed n (length (now capacities)) ≤ length (now work)) ⌝ }
+    ensures { λ r. ⌜ Halted (lentTable n s t tails heads capacities) q (before work) r (after work) ⌝ }
 {
     let mut flow = [0u32; 4096];
     halt_rows(n, s, t, tails, heads, capacities, q, &mut flow, work)
@@ -131,8 +132,8 @@ pub fn has_room_for(
     q: u64,
     work: &mut [u32],
 ) -> Room
-    ensures exact { λ r. ⌜ roomLeft r (now (work .exit)) ≡ asking (boundedOf n s t (now (tails .entry)) (now (heads .entry)) (now (capacities .entry)) (now (minimums .entry))) stamp q (now (work .entry)) ⌝ }
-    ensures says { λ r. ⌜ (r .refusal ≡ 0 → Says (tableOf n s t (now (tails .entry)) (now (heads .entry)) (now (capacities .entry))) q r) ⌝ }
+    ensures exact { λ r. ⌜ roomLeft r (after work) ≡ asking (lentBounded n s t tails heads capacities minimums) stamp q (before work) ⌝ }
+    ensures says { λ r. ⌜ (r .refusal ≡ 0 → Says (lentTable n s t tails heads capacities) q r) ⌝ }
 {
     let roomy = has_work(n, capacities.len(), work.len());
     match minimums::plain_check(n, tails, heads, capacities, minimums, s, t, roomy) {

@@ -1,12 +1,12 @@
 -- The run's flow with its side is the answer: demand 2. Its rows have the table's lengths.
-use Prim.Native.Nat.{ℕ}
+use Prim.Native.Nat.{ℕ, _≤_}
 use native.Mathlib.Omega.{arith}
 use mathlib.Core.List.{List}
 use Rattle.rows.specs.Row.{atPlace}
 use Rattle.network.specs.Network.{Answer}
-use Rattle.network.proofs.Cuts.{no-minimums-enter}
+use Rattle.network.proofs.Cuts.{no-minimums-enter, leaving-most}
 use Rattle.network.proofs.Facts.{answer-at-end}
-use Rattle.table.specs.Table.{Table, networkOf}
+use Rattle.table.specs.Table.{Table, capacity, networkOf}
 use Rattle.table.specs.Accepted.{Accepted}
 use Rattle.reach.specs.Side.{marked, sideOf}
 use Rattle.reach.proofs.Side.{side-reached}
@@ -15,7 +15,7 @@ use Rattle.run.specs.Phase.{after, run, value}
 use Rattle.run.specs.Rows.{Fits}
 use Rattle.run.specs.Demands.{Best}
 use Rattle.run.proofs.Networks.{functionsOf, accepted-sound, no-minimums}
-use Rattle.run.proofs.Whole.{run-course, end-facts}
+use Rattle.run.proofs.Whole.{capacity-in-all, run-course, end-facts}
 
 -- A flow and its side that are the answer of a table meet demand 2.
 pub answer-best : (t : Table) → Accepted t → (flow : List ℕ) → Answer (networkOf t) (atPlace flow) (marked (sideOf t flow))
@@ -42,3 +42,13 @@ run-best t ok =
 pub run-fits : (t : Table) → Accepted t → Fits t (run t .state)
 unfolding run
 run-fits t ok = run-course t ok .fits
+
+-- The run's value is at most 4,096,000,000.
+pub run-value : (t : Table) → Accepted t → value t (run t .state .flow) ≤ 4096000000
+run-value t ok =
+    omega (
+      arith,
+      run-best t ok .cut,
+      leaving-most (networkOf t) (marked (sideOf t (run t .state .flow))) (capacity t),
+      capacity-in-all t ok,
+    )

@@ -1,7 +1,8 @@
 // The booking server's two calls (document 02, CR 4), for a program in C or Rust to link: those of `booking`, under names of their own.
 ghost use mathlib.Core.Path.{_≡_};
+ghost use Rattle.rows.specs.Lent.{before, after};
 ghost use Rattle.wire.specs.Rows.{arcTable};
-ghost use Rattle.wire.specs.Solve.{served, serving};
+ghost use Rattle.wire.specs.Solve.{serving, servedIn};
 ghost use Rattle.wire.specs.Place.{told, telling};
 
 // `booking::solve_bytes`.
@@ -16,7 +17,7 @@ pub extern "C" fn jorrabide_server_solve(
     side: &mut [u8],
     result: &mut [u8],
 ) -> u64
-    ensures { λ r. ⌜ served r (now (flow .exit)) (now (side .exit)) (now (result .exit)) ≡ serving (arcTable n s t (now (arcs .entry))) stamp (now (flow .entry)) (now (side .entry)) (now (result .entry)) ⌝ }
+    ensures { λ r. ⌜ servedIn r flow side result ≡ serving (arcTable n s t (before arcs)) stamp (before flow) (before side) (before result) ⌝ }
 {
     booking::solve_bytes(n, s, t, stamp, arcs, flow, side, result)
 }
@@ -35,7 +36,7 @@ pub extern "C" fn jorrabide_server_place(
     place: u32,
     result: &mut [u8],
 ) -> u64
-    ensures { λ r. ⌜ told r (now (result .exit)) ≡ telling (arcTable n s t (now (arcs .entry))) stamp answer (now (flow .entry)) (now (side .entry)) place (now (result .entry)) ⌝ }
+    ensures { λ r. ⌜ told r (after result) ≡ telling (arcTable n s t (before arcs)) stamp answer (before flow) (before side) place (before result) ⌝ }
 {
     booking::read_bytes(n, s, t, stamp, arcs, answer, flow, side, place, result)
 }

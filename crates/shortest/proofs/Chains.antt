@@ -1,4 +1,4 @@
--- The chain by the lowest places that lead one nearer is the first of the chains of fewest arcs, and the only such.
+-- The chain by the lowest places that lead one nearer, where it arrives, is the first of the chains of fewest arcs, and the only such: by the distances, and by labels that are nowhere above them.
 use Prim.Native.Nat.{ℕ, zero, suc, _≤_, _<_}
 use mathlib.Core.Path.{_≡_, refl, sym, ap, subst, _∙_}
 use mathlib.Core.Logic.{_⊎_, inl, inr, ⊎-elim}
@@ -7,11 +7,11 @@ use mathlib.Core.List.{List, [], _∷_}
 use native.Mathlib.Omega.{arith}
 use lib.ListN.{length}
 use lib.Dec.{eqb, ltb}
-use borrow.Author.Tests.{ltb-true, ltb-false, eqb-true, eq-eqb, ne-eqb}
+use borrow.Author.Tests.{lt-ltb, ltb-true, ltb-false, eqb-true, eq-eqb, ne-eqb}
 use Rattle.rows.proofs.Sums.{by-test, by-equal, both-true}
 use Rattle.rows.specs.Row.{atNode, Node}
 use Rattle.shortest.specs.Ways.{Ways, Leads, ahead, behind, otherEnd}
-use Rattle.shortest.specs.Distance.{leadsBy, leadsTo, lowest, next, chainFrom}
+use Rattle.shortest.specs.Distance.{Labels, leadsBy, leadsTo, lowest, next, chainFrom, arrives}
 use Rattle.shortest.specs.Chain.{Chain, arrived, step, Before, ended, lower, alike, FirstChain}
 use Rattle.shortest.proofs.Ends.{Ends, leads-within}
 use Rattle.shortest.proofs.Laying.{Distances}
@@ -95,46 +95,44 @@ pub leads-place : {w : Ways} {k i j : ℕ} → Leads w k i j → k < w .places
 leads-place (ahead b f p q) = b
 leads-place (behind b f p q) = b
 
--- A chain has at least as many arcs as its first node's distance.
-pub chain-long : (w : Ways) (n t : ℕ) (row : List ℕ) → Distances w n t row → {i : ℕ} {ls : List ℕ} → Chain w t i ls → atNode row i ≤ length ls
-chain-long w n t row right arrived = omega (arith, right .at-sink)
-chain-long w n t row right (step {i} {j} k lead rest) = omega (arith, right .valid k i j lead, chain-long w n t row right rest)
+-- A chain has at least as many arcs as its first node's label.
+pub chain-long : (w : Ways) (n t : ℕ) (row : List ℕ) → Labels w n t row → {i : ℕ} {ls : List ℕ} → Chain w t i ls → atNode row i ≤ length ls
+chain-long w n t row low arrived = omega (arith, low .at-sink)
+chain-long w n t row low (step {i} {j} k lead rest) = omega (arith, low .valid k i j lead, chain-long w n t row low rest)
 
-module _ (w : Ways) (n t : ℕ) (ends : Ends n w) (row : List ℕ) (right : Distances w n t row) where
-  -- From a node at distance suc d below n some place leads to distance d: the lowest.
-  pub next-found : (d i : ℕ) → Node n i → atNode row i ≡ suc d → suc d < n → (next w row d i < w .places) × (leadsTo w row d i (next w row d i) ≡ true)
-  unfolding next
-  next-found d i hi at l =
-      let (k, j, lead, far) = right .descends i d hi at l in
-      let passes = leads-leadsTo w row d i j k lead (λ e. omega (arith, ap (atNode row) e)) far in
-      let found = lowest-passes (leadsTo w row d i) (w .places) k (leads-place lead) (passes .0) in
-      (found .1, found .2)
+-- The chain has as many places as its first node's label.
+pub chosen-long : (w : Ways) (row : List ℕ) (d i : ℕ) → length (chainFrom w row d i) ≡ d
+unfolding chainFrom
+chosen-long w row zero i = refl
+chosen-long w row (suc d) i = ap suc (chosen-long w row d _)
 
-  -- So the places chosen are a chain,
-  pub chosen-chain : (d i : ℕ) → Node n i → atNode row i ≡ d → d < n → Chain w t i (chainFrom w row d i)
-  unfolding chainFrom
-  chosen-chain zero i hi at l = subst (λ x. Chain w t x []) (sym (right .only-sink i hi at)) arrived
-  chosen-chain (suc d) i hi at l =
-      let found = next-found d i hi at l in
-      let there = leadsTo-leads w row d i (next w row d i) (found .0) (found .1) in
+-- A place that is found leads from node i to a node with the label d.
+pub found-leads : (w : Ways) (row : List ℕ) (d i : ℕ) → next w row d i < w .places
+    → Leads w (next w row d i) i (otherEnd w i (next w row d i)) × (atNode row (otherEnd w i (next w row d i)) ≡ d)
+unfolding next
+found-leads w row d i l =
+    leadsTo-leads w row d i (next w row d i) l (⊎-elim (λ p. p .1) (λ e. absurd (omega arith)) (lowest-is (leadsTo w row d i) (w .places) .1))
+
+module _ (w : Ways) (n t : ℕ) (ends : Ends n w) (row : List ℕ) (low : Labels w n t row) where
+  -- Where the places chosen arrive, they are a chain,
+  pub arrives-chain : (d i : ℕ) → Node n i → atNode row i ≡ d → arrives w row d i ≡ true → Chain w t i (chainFrom w row d i)
+  unfolding chainFrom arrives
+  arrives-chain zero i hi at e = subst (λ x. Chain w t x []) (sym (low .only-sink i hi at)) arrived
+  arrives-chain (suc d) i hi at e =
+      let (found, on) = both-true (ltb (next w row d i) (w .places)) (arrives w row d (otherEnd w i (next w row d i))) e in
+      let there = found-leads w row d i (ltb-true (next w row d i) (w .places) found) in
       step (next w row d i) (there .0)
-      (chosen-chain d (otherEnd w i (next w row d i)) (leads-within w n _ i _ ends (there .0) .1) (there .1) (omega arith))
+      (arrives-chain d (otherEnd w i (next w row d i)) (leads-within w n _ i _ ends (there .0) .1) (there .1) on)
 
-  -- As many as the distance,
-  pub chosen-long : (d i : ℕ) → length (chainFrom w row d i) ≡ d
-  unfolding chainFrom
-  chosen-long zero i = refl
-  chosen-long (suc d) i = ap suc (chosen-long d _)
-
-  -- One step of a chain with as many arcs as the distance: its place is the chosen one or higher.
-  first-step : (d i j k : ℕ) {ls : List ℕ} → Node n i → atNode row i ≡ suc d → suc d < n → (lead : Leads w k i j) → Chain w t j ls → length ls ≡ d
-      → ((x : ℕ) → Node n x → atNode row x ≡ d → Chain w t x ls → Before (chainFrom w row d x) ls)
+  -- One step of a chain with as many arcs as the label: its place is the chosen one or higher.
+  first-step : (d i j k : ℕ) {ls : List ℕ} → atNode row i ≡ suc d → (lead : Leads w k i j) → Chain w t j ls → length ls ≡ d
+      → ((x : ℕ) → atNode row x ≡ d → Chain w t x ls → Before (chainFrom w row d x) ls)
       → Before (next w row d i ∷ chainFrom w row d (otherEnd w i (next w row d i))) (k ∷ ls)
   unfolding next
-  first-step d i j k {ls} hi at l lead rest e on = by-equal (next w row d i) k same (λ ne. lower (omega (arith, found .0)))
+  first-step d i j k {ls} at lead rest e on = by-equal (next w row d i) k same (λ ne. lower (omega (arith, found .0)))
     where
       far : atNode row j ≡ d
-      far = omega (arith, right .valid k i j lead, chain-long w n t row right rest)
+      far = omega (arith, low .valid k i j lead, chain-long w n t row low rest)
 
       passes : (leadsTo w row d i k ≡ true) × (otherEnd w i k ≡ j)
       passes = leads-leadsTo w row d i j k lead (λ q. omega (arith, ap (atNode row) q, far)) far
@@ -146,26 +144,44 @@ module _ (w : Ways) (n t : ℕ) (ends : Ends n w) (row : List ℕ) (right : Dist
       same q =
           subst (λ x. Before (x ∷ chainFrom w row d (otherEnd w i x)) (k ∷ ls)) (sym q)
           (alike
-          (subst (λ x. Before (chainFrom w row d x) ls) (sym (passes .1)) (on j (leads-within w n k i j ends lead .1) far rest)))
+          (subst (λ x. Before (chainFrom w row d x) ls) (sym (passes .1)) (on j far rest)))
 
-  -- And first among the chains with as many arcs.
-  pub chosen-first : (d i : ℕ) → Node n i → atNode row i ≡ d → d < n → {ls : List ℕ} → Chain w t i ls → length ls ≡ d → Before (chainFrom w row d i) ls
+  -- and first among the chains with as many arcs.
+  pub chosen-first : (d i : ℕ) → atNode row i ≡ d → {ls : List ℕ} → Chain w t i ls → length ls ≡ d → Before (chainFrom w row d i) ls
   unfolding chainFrom
-  chosen-first zero i hi at l arrived e = ended
-  chosen-first zero i hi at l (step k lead rest) e = absurd (omega arith)
-  chosen-first (suc d) i hi at l arrived e = absurd (omega arith)
-  chosen-first (suc d) i hi at l (step {j = j} {ks = ls} k lead rest) e =
+  chosen-first zero i at arrived e = ended
+  chosen-first zero i at (step k lead rest) e = absurd (omega arith)
+  chosen-first (suc d) i at arrived e = absurd (omega arith)
+  chosen-first (suc d) i at (step {j = j} {ks = ls} k lead rest) e =
       let even : length ls ≡ d = omega arith in
-      first-step d i j k hi at l lead rest even (λ x hx far chain. chosen-first d x hx far (omega arith) chain even)
+      first-step d i j k at lead rest even (λ x far chain. chosen-first d x far chain even)
 
-  -- Document 02's chain: no chain has fewer arcs, and of those with as many its places are lower at the first difference.
-  pub chosen-is-first : (s : ℕ) → Node n s → atNode row s < n → FirstChain w s t (chainFrom w row (atNode row s) s)
-  chosen-is-first s hs l =
+  -- Document 02's chain, where it arrives: no chain has fewer arcs, and of those with as many its places are lower at the first difference.
+  pub arrives-first : (s : ℕ) → Node n s → arrives w row (atNode row s) s ≡ true → FirstChain w s t (chainFrom w row (atNode row s) s)
+  arrives-first s hs e =
       record {
-        chain = chosen-chain (atNode row s) s hs refl l;
-        fewest = λ ls chain. omega (arith, chosen-long (atNode row s) s, chain-long w n t row right chain);
-        first = λ ls chain e. chosen-first (atNode row s) s hs refl l chain (e ∙ chosen-long (atNode row s) s);
+        chain = arrives-chain (atNode row s) s hs refl e;
+        fewest = λ ls chain. omega (arith, chosen-long w row (atNode row s) s, chain-long w n t row low chain);
+        first = λ ls chain even. chosen-first (atNode row s) s refl chain (even ∙ chosen-long w row (atNode row s) s);
       }
+
+module _ (w : Ways) (n t : ℕ) (ends : Ends n w) (row : List ℕ) (right : Distances w n t row) where
+  -- From a node at distance suc d below n some place leads to distance d: the lowest.
+  pub next-found : (d i : ℕ) → Node n i → atNode row i ≡ suc d → suc d < n → next w row d i < w .places
+  unfolding next
+  next-found d i hi at l =
+      let (k, j, lead, far) = right .descends i d hi at l in
+      let passes = leads-leadsTo w row d i j k lead (λ e. omega (arith, ap (atNode row) e)) far in
+      lowest-passes (leadsTo w row d i) (w .places) k (leads-place lead) (passes .0) .1
+
+  -- So by the distances the chain arrives, from every node that is at a distance below n.
+  pub distances-arrive : (d i : ℕ) → Node n i → atNode row i ≡ d → d < n → arrives w row d i ≡ true
+  unfolding arrives
+  distances-arrive zero i hi at l = refl
+  distances-arrive (suc d) i hi at l =
+      let found = next-found d i hi at l in
+      let there = found-leads w row d i found in
+      rw (lt-ltb (next w row d i) (w .places) found) (distances-arrive d (otherEnd w i (next w row d i)) (leads-within w n _ i _ ends (there .0) .1) (there .1) (omega arith))
 
 -- ---- there is only one such chain
 

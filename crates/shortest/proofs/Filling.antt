@@ -19,8 +19,8 @@ use Rattle.network.proofs.Notions.{Sound, residual-over-ext}
 use Rattle.network.proofs.Push.{push-balance, moved-range}
 use Rattle.shortest.specs.Augment.{moved, waysIn, wayFrom, residualFrom, farFrom, leastWith, leastResidual, residualsOf, movedAt, filled, Fits, at-sink, goes}
 use Rattle.shortest.specs.Ways.{Leads, ahead, behind}
+use Rattle.shortest.specs.Distance.{Labels}
 use Rattle.shortest.specs.Chain.{Chain, arrived, step}
-use Rattle.shortest.proofs.Laying.{Distances}
 use Rattle.shortest.proofs.Chains.{chain-long, leads-place}
 
 -- ---- an open arc, taken from node i
@@ -225,12 +225,12 @@ module _ (N : Network) (d : ℕ) where
 
 -- ---- a chain of fewest arcs fits
 
-module _ (N : Network) (sound : Sound N) (n : ℕ) (flow₀ row : List ℕ) (right : Distances (waysIn N flow₀) n (N .t) row) (d : ℕ) where
-  -- Arcs between nodes at distance at most e have the flow that they had.
+module _ (N : Network) (sound : Sound N) (n : ℕ) (flow₀ row : List ℕ) (low : Labels (waysIn N flow₀) n (N .t) row) (d : ℕ) where
+  -- Arcs between nodes with labels of at most e have the flow that they had.
   abbrev pub Same : ℕ → List ℕ → Type 0
   Same e flow = (a : ℕ) → a < N .m → atNode row (N .tail a) ≤ e → atNode row (N .head a) ≤ e → atPlace flow a ≡ atPlace flow₀ a
 
-  -- An arc that leads one nearer has a distance of at most e + 1 at both ends, and not e at both.
+  -- An arc that leads one nearer has a label of at most e + 1 at both ends, and not e at both.
   one-end : {k i j : ℕ} (e : ℕ) → Leads (waysIn N flow₀) k i j → atNode row i ≡ suc e → atNode row j ≡ e
       → (atNode row (N .tail k) ≤ suc e) × (atNode row (N .head k) ≤ suc e) × (atNode row (N .tail k) ≤ e → atNode row (N .head k) ≤ e → ⊥)
   one-end e (ahead l f t h) at far = let p = ap (atNode row) t in let q = ap (atNode row) h in (omega arith, omega arith, λ x y. omega arith)
@@ -242,7 +242,7 @@ module _ (N : Network) (sound : Sound N) (n : ℕ) (flow₀ row : List ℕ) (rig
   unfolding leastWith
   shortest-fits arrived at flow long same least h = at-sink
   shortest-fits (step {i} {j} {ks} k lead rest) at flow long same least h =
-      let far : atNode row j ≡ length ks = omega (arith, right .valid k i j lead, chain-long (waysIn N flow₀) n (N .t) row right rest) in
+      let far : atNode row j ≡ length ks = omega (arith, low .valid k i j lead, chain-long (waysIn N flow₀) n (N .t) row low rest) in
       let l = leads-place lead in
       let ends = one-end (length ks) lead at far in
       let now-residual = residual-over-ext N (atPlace flow) (atPlace flow₀) k (wayFrom N i k) (same k l (ends .0) (ends .1)) in

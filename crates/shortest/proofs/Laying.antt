@@ -13,7 +13,7 @@ use Rattle.rows.proofs.Rows.{node-at}
 use Rattle.rows.proofs.Sums.{by-test, by-equal}
 use Rattle.rows.specs.Row.{atNode, Node}
 use Rattle.shortest.specs.Ways.{Ways, Leads, ahead, behind}
-use Rattle.shortest.specs.Distance.{lay, layTo, rounds, distances}
+use Rattle.shortest.specs.Distance.{Labels, lay, layTo, rounds, distances}
 use Rattle.shortest.proofs.Ends.{Ends, leads-within}
 
 -- ---- one node's distance
@@ -273,28 +273,26 @@ module _ (w : Ways) (n t : ℕ) (ht : Node n t) where
         descends = λ i e hi at l. ⊎-elim (λ p. absurd (omega (arith, p .1))) (λ q. absurd (omega arith)) (start-at i hi);
       }
 
--- What the distances of the nodes 1 to n to node t are: n where t is not reached.
+-- What the distances of the nodes 1 to n to node t are: labels, n where t is not reached, and else with an open arc one nearer.
 pub record Distances (w : Ways) (n t : ℕ) (row : List ℕ) : Type 0 where
-  pub long : length row ≡ n
-  pub at-most : (i : ℕ) → Node n i → atNode row i ≤ n
-  pub at-sink : atNode row t ≡ 0
-  pub only-sink : (i : ℕ) → Node n i → atNode row i ≡ 0 → i ≡ t
-  pub valid : (k i j : ℕ) → Leads w k i j → atNode row i ≤ atNode row j + 1
+  pub labels : Labels w n t row
   pub descends : (i e : ℕ) → Node n i → atNode row i ≡ suc e → suc e < n → (k : ℕ) × (j : ℕ) × Leads w k i j × (atNode row j ≡ e)
 
 -- Distances that are right after n rounds are right.
 laid-all : (w : Ways) (n t : ℕ) → Ends n w → (row : List ℕ) → Laid w n t n row → Distances w n t row
 laid-all w n t ends row so =
     record {
-      long = so .long;
-      at-most = most;
-      at-sink = so .at-sink;
-      only-sink = so .only-sink;
-      valid = λ k i j lead.
-          let (hi, hj) = leads-within w n k i j ends lead in
-          by-equal (atNode row j) n
-          (λ e. omega (arith, most i hi))
-          (λ ne. so .valid k i j lead (⊎-elim (λ l. omega arith) (λ e. absurd (ne e)) (so .range j hj)));
+      labels = record {
+        long = so .long;
+        at-most = most;
+        at-sink = so .at-sink;
+        only-sink = so .only-sink;
+        valid = λ k i j lead.
+            let (hi, hj) = leads-within w n k i j ends lead in
+            by-equal (atNode row j) n
+            (λ e. omega (arith, most i hi))
+            (λ ne. so .valid k i j lead (⊎-elim (λ l. omega arith) (λ e. absurd (ne e)) (so .range j hj)));
+      };
       descends = so .descends;
     }
   where
@@ -313,24 +311,24 @@ module _ (w : Ways) (n t : ℕ) (ends : Ends n w) (ht : Node n t) where
   unfolding distances
   distances-right = laid-all w n t ends (rounds w n n (set (replicate n n) (t - 1) 0)) (rounds-laid n (omega arith))
 
-  -- No right distance is above another: by the arc that leads one nearer.
-  never-above : (a b : List ℕ) → Distances w n t a → Distances w n t b → (e i : ℕ) → Node n i → atNode b i ≡ e → atNode a i ≤ e
-  never-above a b ra rb zero i hi at = omega (arith, ap (atNode a) (rb .only-sink i hi at), ra .at-sink)
-  never-above a b ra rb (suc e) i hi at =
+  -- No label is above a right distance: by the arc that leads one nearer.
+  pub never-above : (a b : List ℕ) → Labels w n t a → Distances w n t b → (e i : ℕ) → Node n i → atNode b i ≡ e → atNode a i ≤ e
+  never-above a b low rb zero i hi at = omega (arith, ap (atNode a) (rb .labels .only-sink i hi at), low .at-sink)
+  never-above a b low rb (suc e) i hi at =
       by-test (ltb (suc e) n)
       (λ y.
       let (k, j, lead, far) = rb .descends i e hi at (ltb-true (suc e) n y) in
-      omega (arith, ra .valid k i j lead, never-above a b ra rb e j (leads-within w n k i j ends lead .1) far))
-      (λ y. let past = ltb-false (suc e) n y in omega (arith, ra .at-most i hi))
+      omega (arith, low .valid k i j lead, never-above a b low rb e j (leads-within w n k i j ends lead .1) far))
+      (λ y. let past = ltb-false (suc e) n y in omega (arith, low .at-most i hi))
 
   -- So whoever measures rightly, in whatever order, has the distances.
   pub only-distances : (row : List ℕ) → Distances w n t row → row ≡ distances w n t
   only-distances row right =
-      ext-getD 0 row (distances w n t) (right .long ∙ sym (distances-right .long))
+      ext-getD 0 row (distances w n t) (right .labels .long ∙ sym (distances-right .labels .long))
       (λ k l.
-      let hi : Node n (suc k) = omega (arith, right .long) in
+      let hi : Node n (suc k) = omega (arith, right .labels .long) in
       omega (
         arith,
-        never-above row (distances w n t) right distances-right (atNode (distances w n t) (suc k)) (suc k) hi refl,
-        never-above (distances w n t) row distances-right right (atNode row (suc k)) (suc k) hi refl,
+        never-above row (distances w n t) (right .labels) distances-right (atNode (distances w n t) (suc k)) (suc k) hi refl,
+        never-above (distances w n t) row (distances-right .labels) right (atNode row (suc k)) (suc k) hi refl,
       ))

@@ -17,11 +17,12 @@ use Rattle.network.proofs.Gaps.{Valid, EndLabels, sink-unreached}
 use Rattle.reach.specs.Side.{marked, sideFrom}
 use Rattle.reach.proofs.Side.{side-reached}
 use Rattle.shortest.specs.Ways.{ahead, behind}
+use Rattle.shortest.specs.Distance.{arrives}
 use Rattle.shortest.specs.Chain.{Chain, arrived, step, FirstChain}
 use Rattle.shortest.specs.Augment.{waysIn, residualFrom, leastWith, leastResidual, filled, Fits, distancesIn, reaches, chainIn, augmented, goOn, enough, settled, GoesOn, stops, fills}
 use Rattle.shortest.proofs.Ends.{Ends}
 use Rattle.shortest.proofs.Laying.{Distances, distances-right}
-use Rattle.shortest.proofs.Chains.{chosen-is-first, chosen-long, first-chain-same}
+use Rattle.shortest.proofs.Chains.{arrives-first, distances-arrive, chosen-long, first-chain-same}
 use Rattle.shortest.proofs.Filling.{least-above, filled-long, fits-later, fits-flow, fits-value, shortest-fits}
 
 -- The least residual, as it is found from the first arc's.
@@ -59,17 +60,22 @@ module _ (N : Network) (sound : Sound N) where
   pub distances-in : (flow : List ℕ) → Distances (waysIn N flow) (N .n) (N .t) (distancesIn N flow)
   distances-in flow = distances-right (waysIn N flow) (N .n) (N .t) (ways-ends flow) sink-within
 
-  -- Document 02's chain, where the sink can be reached.
+  -- Where the sink can be reached, the chain by the distances arrives:
+  pub distances-reach : (flow : List ℕ) → reaches N flow ≡ true → arrives (waysIn N flow) (distancesIn N flow) (atNode (distancesIn N flow) (N .s)) (N .s) ≡ true
+  distances-reach flow e =
+      distances-arrive (waysIn N flow) (N .n) (N .t) (ways-ends flow) (distancesIn N flow) (distances-in flow) (atNode (distancesIn N flow) (N .s)) (N .s) source-within refl
+      (ltb-true (atNode (distancesIn N flow) (N .s)) (N .n) e)
+
+  -- it is document 02's.
   pub chain-first : (flow : List ℕ) → reaches N flow ≡ true → FirstChain (waysIn N flow) (N .s) (N .t) (chainIn N flow)
   chain-first flow e =
-      chosen-is-first (waysIn N flow) (N .n) (N .t) (ways-ends flow) (distancesIn N flow) (distances-in flow) (N .s) source-within
-      (ltb-true (atNode (distancesIn N flow) (N .s)) (N .n) e)
+      arrives-first (waysIn N flow) (N .n) (N .t) (ways-ends flow) (distancesIn N flow) (distances-in flow .labels) (N .s) source-within (distances-reach flow e)
 
   -- The source is not the sink: the chain has arcs.
   pub distance-positive : (flow : List ℕ) → 1 ≤ atNode (distancesIn N flow) (N .s)
   distance-positive flow =
       by-equal (atNode (distancesIn N flow) (N .s)) 0
-      (λ e. absurd (sound .apart (distances-in flow .only-sink (N .s) source-within e)))
+      (λ e. absurd (sound .apart (distances-in flow .labels .only-sink (N .s) source-within e)))
       (λ ne. omega arith)
 
   -- ---- one chain filled
@@ -77,7 +83,7 @@ module _ (N : Network) (sound : Sound N) where
   module _ (flow : List ℕ) (long : N .m ≤ length flow) (e : reaches N flow ≡ true) where
     -- The chain has as many arcs as the source is far.
     pub chain-even : atNode (distancesIn N flow) (N .s) ≡ length (chainIn N flow)
-    chain-even = sym (chosen-long (waysIn N flow) (N .n) (N .t) (ways-ends flow) (distancesIn N flow) (distances-in flow) (atNode (distancesIn N flow) (N .s)) (N .s))
+    chain-even = sym (chosen-long (waysIn N flow) (distancesIn N flow) (atNode (distancesIn N flow) (N .s)) (N .s))
 
     -- Each arc of the chain has room for its least residual in its turn.
     pub chain-fits : Fits N (leastResidual N flow (N .s) (chainIn N flow)) (N .s) (chainIn N flow) flow
@@ -86,7 +92,7 @@ module _ (N : Network) (sound : Sound N) where
         by : (ks : List ℕ) → Chain (waysIn N flow) (N .t) (N .s) ks → atNode (distancesIn N flow) (N .s) ≡ length ks → Fits N (leastResidual N flow (N .s) ks) (N .s) ks flow
         by [] chain even = absurd (omega (arith, distance-positive flow))
         by (k ∷ ks) chain even =
-            shortest-fits N sound (N .n) flow (distancesIn N flow) (distances-in flow) (leastResidual N flow (N .s) (k ∷ ks)) chain even flow long (λ a l p q. refl) (residualFrom N flow (N .s) k) (least-is N flow (N .s) k ks)
+            shortest-fits N sound (N .n) flow (distancesIn N flow) (distances-in flow .labels) (leastResidual N flow (N .s) (k ∷ ks)) chain even flow long (λ a l p q. refl) (residualFrom N flow (N .s) k) (least-is N flow (N .s) k ks)
 
     -- The least residual is at least 1.
     pub amount-positive : 1 ≤ leastResidual N flow (N .s) (chainIn N flow)
@@ -220,8 +226,8 @@ module _ (N : Network) (sound : Sound N) where
 
   -- The distances are valid labels.
   distance-valid : (flow : List ℕ) → Valid N (atPlace flow) (atNode (distancesIn N flow))
-  distance-valid flow k true l r = distances-in flow .valid k (N .tail k) (N .head k) (ahead l (lt-ltb 0 (residualOver N (atPlace flow) k true) r) refl refl)
-  distance-valid flow k false l r = distances-in flow .valid k (N .head k) (N .tail k) (behind l (lt-ltb 0 (residualOver N (atPlace flow) k false) r) refl refl)
+  distance-valid flow k true l r = distances-in flow .labels .valid k (N .tail k) (N .head k) (ahead l (lt-ltb 0 (residualOver N (atPlace flow) k true) r) refl refl)
+  distance-valid flow k false l r = distances-in flow .labels .valid k (N .head k) (N .tail k) (behind l (lt-ltb 0 (residualOver N (atPlace flow) k false) r) refl refl)
 
   module _ (flow : List ℕ) (stop : reaches N flow ≡ false) where
     -- n at the source, 0 at the sink.
@@ -230,8 +236,8 @@ module _ (N : Network) (sound : Sound N) where
         record {
           source =
               let far = ltb-false (atNode (distancesIn N flow) (N .s)) (N .n) stop in
-              omega (arith, distances-in flow .at-most (N .s) source-within);
-          sink = distances-in flow .at-sink;
+              omega (arith, distances-in flow .labels .at-most (N .s) source-within);
+          sink = distances-in flow .labels .at-sink;
         }
 
     -- The sink is not reachable.

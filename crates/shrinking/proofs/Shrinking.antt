@@ -11,10 +11,10 @@ use Rattle.rows.specs.Row.{Node, atPlace}
 use Rattle.rows.specs.Sum.{sum, only}
 use Rattle.rows.proofs.Sums.{by-equal, by-test, both-true, only-of-zero, sum-zero}
 use Rattle.rows.proofs.Rows.{at-places}
-use Rattle.network.specs.Network.{Network, Inner, Flow, Value, Cut, source, along, Reached, arrived, onward, SinkReached, Answer, inflow, outflow, nearEnd, farEnd, residualOver}
+use Rattle.network.specs.Network.{Inner, Flow, Value, Cut, source, along, Reached, arrived, onward, SinkReached, Answer, inflow, outflow, nearEnd, farEnd, residualOver}
 use Rattle.network.proofs.Notions.{Closed}
 use Rattle.network.proofs.Agree.{inflow-agree, outflow-agree}
-use Rattle.network.proofs.Cuts.{reach-inside, reached-answer, no-minimums-enter}
+use Rattle.network.proofs.Cuts.{reach-inside, reach-closed, reached-answer, no-minimums-enter}
 use Rattle.table.specs.Table.{Table, arcs, tail, head, capacity, networkOf}
 use Rattle.table.specs.Accepted.{Accepted}
 use Rattle.reach.specs.Side.{marked, sideOf}
@@ -27,10 +27,6 @@ use Rattle.reach.proofs.Turning.{sink-side-reached}
 use Rattle.listing.proofs.Listing.{count-next, passing-few, passing-fewer, passing-rises}
 use Rattle.shrinking.specs.Smaller.{fromSource, toSink, live, keepsNode, keepsArc, nodesFrom, arcsFrom, numberIn, smaller, backAt, putBack, backFlow, backSide}
 use Rattle.listing.proofs.Ranking.{map-at, map-long, rank, rank-below, at-rank, rank-once, Ranked, ranked-at, sum-ranks}
-
--- Nothing residual leaves the reachable nodes.
-reach-closed : (N : Network) (flow : ℕ → ℕ) (R : ℕ → Bool) → Reached N flow R → Closed N flow R
-reach-closed N flow R exact k b l r e = exact .into (farEnd N k b) (along k b l r (exact .from (nearEnd N k b) e))
 
 -- One of two tests holds.
 or-left : (a b : Bool) → a ≡ true → a || b ≡ true

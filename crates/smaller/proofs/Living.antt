@@ -1,16 +1,15 @@
 -- From the marks and rows that the code makes to those of the definitions.
 use Prim.Native.Nat.{ℕ, zero, suc, _≤_}
-use mathlib.Core.Path.{_≡_, refl, ap, sym, _∙_, fun-ext}
+use mathlib.Core.Path.{_≡_, refl, ap, _∙_, fun-ext}
 use mathlib.Core.Bool.{Bool, true, _&&_}
 use mathlib.Core.List.{List, _++_}
-use native.Mathlib.Omega.{arith}
 use borrow.Author.Tests.{le-leb}
 use lib.Dec.{leb}
 use lib.ListN.{take, drop, replicate}
 use lib.Seq.{take-at}
 use Rattle.rows.specs.Row.{atPlace}
 use Rattle.table.specs.Table.{Table, arcs, networkOf}
-use Rattle.table.specs.Accepted.{ArcRows, Accepted}
+use Rattle.table.specs.Accepted.{Accepted}
 use Rattle.reach.specs.Side.{sideFrom, sideOf, turned, sinkSideOf}
 use Rattle.reach.proofs.Side.{length-of-side}
 use Rattle.reach.proofs.Turning.{turned-sound}
@@ -21,23 +20,6 @@ use Rattle.solver.specs.declared.Answer.{Answer}
 use Rattle.solver.specs.Solving.{Left, left, solution, solved}
 use Rattle.shrinking.specs.Smaller.{fromSource, toSink}
 use Rattle.smaller.specs.Reducing.{hasSmallRoom}
-
--- Rows of arcs are so with every arc the other way round.
-pub rows-turned : {n : ℕ} {tails heads capacities : List ℕ} → ArcRows n tails heads capacities → ArcRows n heads tails capacities
-rows-turned rows =
-    record {
-      ends =
-          record {
-            few-nodes = rows .ends .few-nodes;
-            few-arcs = omega (arith, rows .ends .few-arcs, rows .ends .heads-long);
-            heads-long = sym (rows .ends .heads-long);
-            tail-node = λ k l. rows .ends .head-node k (omega (arith, rows .ends .heads-long));
-            head-node = λ k l. rows .ends .tail-node k (omega (arith, rows .ends .heads-long));
-            no-loop = λ k l e. rows .ends .no-loop k (omega (arith, rows .ends .heads-long)) (sym e);
-          };
-      capacities-long = omega (arith, rows .capacities-long, rows .ends .heads-long);
-      small = rows .small;
-    }
 
 -- A row of zeros says that nothing flows.
 zero-flow : (row : List ℕ) (n : ℕ) → row ≡ replicate n 0 → atPlace row ≡ (λ k. 0)

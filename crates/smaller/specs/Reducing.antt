@@ -1,9 +1,11 @@
 -- Document 02, CR 14, the call: what it answers, and what the lent rows hold afterwards.
-use Prim.Native.Nat.{ℕ}
+use Prim.Native.Nat.{ℕ, _≤_}
 use mathlib.Core.Bool.{Bool, _&&_}
 use mathlib.Core.List.{List, _++_}
 use lib.Dec.{leb}
 use lib.ListN.{length, drop}
+use denote.Ref.{now}
+use Rattle.rows.specs.Lent.{Given}
 use Rattle.rows.specs.Row.{cleared}
 use Rattle.table.specs.Table.{Table, arcs}
 use Rattle.table.specs.declared.Verdict.{Verdict}
@@ -53,6 +55,13 @@ shrunk t stamp flow side work small =
 unfoldable pub hasSmallRoom : (n m tails heads capacities nodes-from arcs-from : ℕ) → Bool
 hasSmallRoom n m tails heads capacities nodes-from arcs-from =
     leb m tails && (leb m heads && (leb m capacities && (leb n nodes-from && leb m arcs-from)))
+
+-- The rows that a call is given, other than that of the flow, have room: for the side, the work, and a smaller table and its origins.
+abbrev pub GivenRoomToReduce : (n : ℕ) (capacities side work small-tails small-heads small-capacities nodes-from arcs-from : Given) → Type 0
+GivenRoomToReduce n capacities side work small-tails small-heads small-capacities nodes-from arcs-from =
+    (n ≤ length (now side)) × (workNeed n (length (now capacities)) ≤ length (now work))
+    × (length (now capacities) ≤ length (now small-tails)) × (length (now capacities) ≤ length (now small-heads))
+    × (length (now capacities) ≤ length (now small-capacities)) × (n ≤ length (now nodes-from)) × (length (now capacities) ≤ length (now arcs-from))
 
 -- ROOM looks, in its place, at solving's rows and at those.
 abbrev pub hasAllRoom : Table → (flow side work : ℕ) → SmallRows → Bool

@@ -7,10 +7,11 @@ ghost use mathlib.Core.Bool.{_&&_};
 ghost use mathlib.Core.List.{_++_};
 ghost use Prim.Native.Nat.{_≤_};
 ghost use lib.ListN.{length, take, drop, replicate};
+ghost use Rattle.rows.specs.Lent.{before, after};
 ghost use Rattle.rows.specs.Row.{byPlace, cleared};
-ghost use Rattle.table.specs.Table.{tableOf};
+ghost use Rattle.table.specs.Table.{tableOf, lentTable, givenTable};
 ghost use Rattle.table.specs.Accepted.{Accepted};
-ghost use Rattle.minimums.specs.BoundedTable.{boundedOf};
+ghost use Rattle.minimums.specs.BoundedTable.{lentBounded};
 ghost use Rattle.stamps.specs.Stamp.{raised};
 ghost use Rattle.arcs.specs.Work.{InWork, workNeed};
 ghost use Rattle.reach.specs.Side.{sideOf};
@@ -18,8 +19,8 @@ ghost use Rattle.run.specs.Phase.{run};
 ghost use Rattle.run.specs.Demands.{Best};
 ghost use Rattle.solver.specs.Solving.{refusal, solution};
 ghost use Rattle.shrinking.specs.Smaller.{fromSource, toSink, arcBy, backBy};
-ghost use Rattle.keeping.specs.SmallRows.{smallRows};
-ghost use Rattle.smaller.specs.Reducing.{leftReduced, reducedWith, shrunk, hasSmallRoom, reducing};
+ghost use Rattle.keeping.specs.SmallRows.{lentSmall};
+ghost use Rattle.smaller.specs.Reducing.{leftReduced, reducedWith, shrunk, hasSmallRoom, reducing, GivenRoomToReduce};
 
 // Marks what the source reaches and what reaches the sink over arcs of capacity above 0, by lists that stay in their row.
 fn find_live(
@@ -34,10 +35,12 @@ fn find_live(
     ahead: &mut [u8],
     behind: &mut [u8],
 )
-    requires { ⌜ Accepted (tableOf n s t (now tails) (now heads) (now capacities)) × (now none ≡ replicate (length (now none)) 0) ⌝ }
-    requires { ⌜ (length (now capacities) ≤ length (now none)) × (workNeed n (length (now capacities)) ≤ length (now lists)) × (n ≤ length (now ahead)) × (n ≤ length (now behind)) ⌝ }
-    ensures { λ _. ⌜ InWork (tableOf n s t (now (tails .entry)) (now (heads .entry)) (now (capacities .entry))) (now (lists .exit)) ⌝ }
-    ensures { λ _. ⌜ (take n (now (ahead .exit)) ≡ fromSource (tableOf n s t (now (tails .entry)) (now (heads .entry)) (now (capacities .entry)))) × (take n (now (behind .exit)) ≡ toSink (tableOf n s t (now (tails .entry)) (now (heads .entry)) (now (capacities .entry)))) ⌝ }
+    requires { ⌜ Accepted (givenTable n s t tails heads capacities) × (now none ≡ replicate (length (now none)) 0) ⌝ }
+    requires { ⌜ (length (now capacities) ≤ length (now none)) × (workNeed n (length (now capacities)) ≤ length (now lists))
+        × (n ≤ length (now ahead)) × (n ≤ length (now behind)) ⌝ }
+    ensures { λ _. ⌜ InWork (lentTable n s t tails heads capacities) (after lists) ⌝ }
+    ensures { λ _. ⌜ (let table = lentTable n s t tails heads capacities in
+        (take n (after ahead) ≡ fromSource table) × (take n (after behind) ≡ toSink table)) ⌝ }
 {
     arcs::fill_work(n, tails, heads, lists);
     reach::mark(n, s, tails, heads, capacities, none, lists, ahead);
@@ -58,9 +61,13 @@ fn solve_small(
     marks: &mut [u8],
     room: &mut [u32],
 ) -> Answer
-    requires { ⌜ Accepted (tableOf nodes source sink (take arcs (now «small_tails»)) (take arcs (now «small_heads»)) (take arcs (now «small_capacities»))) ⌝ }
-    requires { ⌜ (arcs ≤ length (now «small_tails»)) × (arcs ≤ length (now «small_heads»)) × (arcs ≤ length (now «small_capacities»)) × (arcs ≤ length (now flows)) × (nodes ≤ length (now marks)) × (workNeed nodes arcs ≤ length (now room)) ⌝ }
-    ensures { λ r. ⌜ (r ≡ solution (tableOf nodes source sink (take arcs (now («small_tails» .entry))) (take arcs (now («small_heads» .entry))) (take arcs (now («small_capacities» .entry)))) stamp) × (take arcs (now (flows .exit)) ≡ run (tableOf nodes source sink (take arcs (now («small_tails» .entry))) (take arcs (now («small_heads» .entry))) (take arcs (now («small_capacities» .entry)))) .state .flow) ⌝ }
+    requires { ⌜ Accepted (tableOf nodes source sink
+        (take arcs (now «small_tails»)) (take arcs (now «small_heads»)) (take arcs (now «small_capacities»))) ⌝ }
+    requires { ⌜ (arcs ≤ length (now «small_tails»)) × (arcs ≤ length (now «small_heads»)) × (arcs ≤ length (now «small_capacities»))
+        × (arcs ≤ length (now flows)) × (nodes ≤ length (now marks)) × (workNeed nodes arcs ≤ length (now room)) ⌝ }
+    ensures { λ r. ⌜ (let small = tableOf nodes source sink
+        (take arcs (before «small_tails»)) (take arcs (before «small_heads»)) (take arcs (before «small_capacities»)) in
+        (r ≡ solution small stamp) × (take arcs (after flows) ≡ run small .state .flow)) ⌝ }
 {
     let m = arcs as usize;
     solver::solve_table(
@@ -93,11 +100,14 @@ fn put_all_back(
     side: &mut [u8],
     work: &mut [u32],
 )
-    requires { ⌜ Accepted (tableOf n s t (now tails) (now heads) (now capacities)) × InWork (tableOf n s t (now tails) (now heads) (now capacities)) (now lists) ⌝ }
-    requires { ⌜ (length (now ahead) ≡ n) × (length (now behind) ≡ n) × (length (now capacities) ≤ length (now flows)) × (length (now flow) ≡ length (now capacities)) × (n ≤ length (now side)) × (workNeed n (length (now capacities)) ≤ length (now work)) ⌝ }
-    ensures { λ _. ⌜ now (flow .exit) ≡ byPlace (backBy (arcBy (now (ahead .entry)) (now (behind .entry)) (now (tails .entry)) (now (heads .entry)) (now (capacities .entry))) (now (flows .entry))) (length (now (capacities .entry))) ⌝ }
-    ensures { λ _. ⌜ now (side .exit) ≡ sideOf (tableOf n s t (now (tails .entry)) (now (heads .entry)) (now (capacities .entry))) (now (flow .exit)) ++ drop n (now (side .entry)) ⌝ }
-    ensures { λ _. ⌜ now (work .exit) ≡ cleared (workNeed n (length (now (capacities .entry)))) (now (work .entry)) ⌝ }
+    requires { ⌜ (let table = givenTable n s t tails heads capacities in Accepted table × InWork table (now lists)) ⌝ }
+    requires { ⌜ (length (now ahead) ≡ n) × (length (now behind) ≡ n) × (length (now capacities) ≤ length (now flows))
+        × (length (now flow) ≡ length (now capacities)) × (n ≤ length (now side))
+        × (workNeed n (length (now capacities)) ≤ length (now work)) ⌝ }
+    ensures { λ _. ⌜ (let kept = arcBy (before ahead) (before behind) (before tails) (before heads) (before capacities) in
+        after flow ≡ byPlace (backBy kept (before flows)) (length (before capacities))) ⌝ }
+    ensures { λ _. ⌜ after side ≡ sideOf (lentTable n s t tails heads capacities) (after flow) ++ drop n (before side) ⌝ }
+    ensures { λ _. ⌜ after work ≡ cleared (workNeed n (length (before capacities))) (before work) ⌝ }
 {
     keeping::put_back(ahead, behind, tails, heads, capacities, flows, flow);
     reach::mark(n, s, tails, heads, capacities, flow, lists, side);
@@ -147,10 +157,15 @@ fn reduce_marked(
     nodes_from: &mut [u32],
     arcs_from: &mut [u32],
 ) -> Reduced
-    requires { ⌜ Accepted (tableOf n s t (now tails) (now heads) (now capacities)) × InWork (tableOf n s t (now tails) (now heads) (now capacities)) (now lists) × (now ahead ≡ fromSource (tableOf n s t (now tails) (now heads) (now capacities))) × (now behind ≡ toSink (tableOf n s t (now tails) (now heads) (now capacities))) ⌝ }
-    requires { ⌜ (length (now ahead) ≡ n) × (length (now behind) ≡ n) × (length (now numbers) ≡ n) × (4096 ≤ length (now flows)) × (512 ≤ length (now marks)) × (10241 ≤ length (now room)) × (length (now flow) ≡ length (now capacities)) ⌝ }
-    requires { ⌜ (n ≤ length (now side)) × (workNeed n (length (now capacities)) ≤ length (now work)) × (length (now capacities) ≤ length (now «small_tails»)) × (length (now capacities) ≤ length (now «small_heads»)) × (length (now capacities) ≤ length (now «small_capacities»)) × (n ≤ length (now «nodes_from»)) × (length (now capacities) ≤ length (now «arcs_from»)) ⌝ }
-    ensures { λ r. ⌜ leftReduced r (now (flow .exit)) (now (side .exit)) (now (work .exit)) (smallRows (now («small_tails» .exit)) (now («small_heads» .exit)) (now («small_capacities» .exit)) (now («nodes_from» .exit)) (now («arcs_from» .exit))) ≡ shrunk (tableOf n s t (now (tails .entry)) (now (heads .entry)) (now (capacities .entry))) stamp (now (flow .entry)) (now (side .entry)) (now (work .entry)) (smallRows (now («small_tails» .entry)) (now («small_heads» .entry)) (now («small_capacities» .entry)) (now («nodes_from» .entry)) (now («arcs_from» .entry))) ⌝ }
+    requires { ⌜ (let table = givenTable n s t tails heads capacities in
+        Accepted table × InWork table (now lists) × (now ahead ≡ fromSource table) × (now behind ≡ toSink table)) ⌝ }
+    requires { ⌜ (length (now ahead) ≡ n) × (length (now behind) ≡ n) × (length (now numbers) ≡ n) × (4096 ≤ length (now flows))
+        × (512 ≤ length (now marks)) × (10241 ≤ length (now room)) × (length (now flow) ≡ length (now capacities)) ⌝ }
+    requires { ⌜ GivenRoomToReduce n capacities side work «small_tails» «small_heads» «small_capacities» «nodes_from» «arcs_from» ⌝ }
+    ensures { λ r. ⌜ (let small = lentSmall «small_tails» «small_heads» «small_capacities» «nodes_from» «arcs_from» in
+        let table = lentTable n s t tails heads capacities in
+        leftReduced r (after flow) (after side) (after work) (small .exit)
+        ≡ shrunk table stamp (before flow) (before side) (before work) (small .entry)) ⌝ }
 {
     let sizes = keeping::write_small(
         s,
@@ -234,10 +249,15 @@ fn reduce_cut(
     nodes_from: &mut [u32],
     arcs_from: &mut [u32],
 ) -> Reduced
-    requires { ⌜ Accepted (tableOf n s t (now tails) (now heads) (now capacities)) × InWork (tableOf n s t (now tails) (now heads) (now capacities)) (now lists) × (take n (now ahead) ≡ fromSource (tableOf n s t (now tails) (now heads) (now capacities))) × (take n (now behind) ≡ toSink (tableOf n s t (now tails) (now heads) (now capacities))) ⌝ }
-    requires { ⌜ (n ≤ length (now ahead)) × (n ≤ length (now behind)) × (n ≤ length (now numbers)) × (4096 ≤ length (now flows)) × (512 ≤ length (now marks)) × (10241 ≤ length (now room)) × (length (now capacities) ≤ length (now flow)) ⌝ }
-    requires { ⌜ (n ≤ length (now side)) × (workNeed n (length (now capacities)) ≤ length (now work)) × (length (now capacities) ≤ length (now «small_tails»)) × (length (now capacities) ≤ length (now «small_heads»)) × (length (now capacities) ≤ length (now «small_capacities»)) × (n ≤ length (now «nodes_from»)) × (length (now capacities) ≤ length (now «arcs_from»)) ⌝ }
-    ensures { λ r. ⌜ leftReduced r (now (flow .exit)) (now (side .exit)) (now (work .exit)) (smallRows (now («small_tails» .exit)) (now («small_heads» .exit)) (now («small_capacities» .exit)) (now («nodes_from» .exit)) (now («arcs_from» .exit))) ≡ shrunk (tableOf n s t (now (tails .entry)) (now (heads .entry)) (now (capacities .entry))) stamp (now (flow .entry)) (now (side .entry)) (now (work .entry)) (smallRows (now («small_tails» .entry)) (now («small_heads» .entry)) (now («small_capacities» .entry)) (now («nodes_from» .entry)) (now («arcs_from» .entry))) ⌝ }
+    requires { ⌜ (let table = givenTable n s t tails heads capacities in
+        Accepted table × InWork table (now lists) × (take n (now ahead) ≡ fromSource table) × (take n (now behind) ≡ toSink table)) ⌝ }
+    requires { ⌜ (n ≤ length (now ahead)) × (n ≤ length (now behind)) × (n ≤ length (now numbers)) × (4096 ≤ length (now flows))
+        × (512 ≤ length (now marks)) × (10241 ≤ length (now room)) × (length (now capacities) ≤ length (now flow)) ⌝ }
+    requires { ⌜ GivenRoomToReduce n capacities side work «small_tails» «small_heads» «small_capacities» «nodes_from» «arcs_from» ⌝ }
+    ensures { λ r. ⌜ (let small = lentSmall «small_tails» «small_heads» «small_capacities» «nodes_from» «arcs_from» in
+        let table = lentTable n s t tails heads capacities in
+        leftReduced r (after flow) (after side) (after work) (small .exit)
+        ≡ shrunk table stamp (before flow) (before side) (before work) (small .entry)) ⌝ }
 {
     let nodes = n as usize;
     let m = capacities.len();
@@ -285,9 +305,12 @@ fn reduce_accepted(
     nodes_from: &mut [u32],
     arcs_from: &mut [u32],
 ) -> Reduced
-    requires { ⌜ Accepted (tableOf n s t (now tails) (now heads) (now capacities)) × (length (now capacities) ≤ length (now flow)) ⌝ }
-    requires { ⌜ (n ≤ length (now side)) × (workNeed n (length (now capacities)) ≤ length (now work)) × (length (now capacities) ≤ length (now «small_tails»)) × (length (now capacities) ≤ length (now «small_heads»)) × (length (now capacities) ≤ length (now «small_capacities»)) × (n ≤ length (now «nodes_from»)) × (length (now capacities) ≤ length (now «arcs_from»)) ⌝ }
-    ensures { λ r. ⌜ leftReduced r (now (flow .exit)) (now (side .exit)) (now (work .exit)) (smallRows (now («small_tails» .exit)) (now («small_heads» .exit)) (now («small_capacities» .exit)) (now («nodes_from» .exit)) (now («arcs_from» .exit))) ≡ shrunk (tableOf n s t (now (tails .entry)) (now (heads .entry)) (now (capacities .entry))) stamp (now (flow .entry)) (now (side .entry)) (now (work .entry)) (smallRows (now («small_tails» .entry)) (now («small_heads» .entry)) (now («small_capacities» .entry)) (now («nodes_from» .entry)) (now («arcs_from» .entry))) ⌝ }
+    requires { ⌜ Accepted (givenTable n s t tails heads capacities) × (length (now capacities) ≤ length (now flow)) ⌝ }
+    requires { ⌜ GivenRoomToReduce n capacities side work «small_tails» «small_heads» «small_capacities» «nodes_from» «arcs_from» ⌝ }
+    ensures { λ r. ⌜ (let small = lentSmall «small_tails» «small_heads» «small_capacities» «nodes_from» «arcs_from» in
+        let table = lentTable n s t tails heads capacities in
+        leftReduced r (after flow) (after side) (after work) (small .exit)
+        ≡ shrunk table stamp (before flow) (before side) (before work) (small .entry)) ⌝ }
 {
     let none = [0u32; 4096];
     let mut lists = [0u32; 4 * 512 + 2 * 4096 + 1];
@@ -399,8 +422,12 @@ pub fn reduce(
     nodes_from: &mut [u32],
     arcs_from: &mut [u32],
 ) -> Reduced
-    ensures exact { λ r. ⌜ leftReduced r (now (flow .exit)) (now (side .exit)) (now (work .exit)) (smallRows (now («small_tails» .exit)) (now («small_heads» .exit)) (now («small_capacities» .exit)) (now («nodes_from» .exit)) (now («arcs_from» .exit))) ≡ reducing (boundedOf n s t (now (tails .entry)) (now (heads .entry)) (now (capacities .entry)) (now (minimums .entry))) stamp (now (flow .entry)) (now (side .entry)) (now (work .entry)) (smallRows (now («small_tails» .entry)) (now («small_heads» .entry)) (now («small_capacities» .entry)) (now («nodes_from» .entry)) (now («arcs_from» .entry))) ⌝ }
-    ensures best { λ r. ⌜ (r .answer .refusal ≡ 0 → Best (tableOf n s t (now (tails .entry)) (now (heads .entry)) (now (capacities .entry))) (take (length (now (capacities .entry))) (now (flow .exit))) (take n (now (side .exit))) (r .answer .value)) ⌝ }
+    ensures exact { λ r. ⌜ (let small = lentSmall «small_tails» «small_heads» «small_capacities» «nodes_from» «arcs_from» in
+        let table = lentBounded n s t tails heads capacities minimums in
+        leftReduced r (after flow) (after side) (after work) (small .exit)
+        ≡ reducing table stamp (before flow) (before side) (before work) (small .entry)) ⌝ }
+    ensures best { λ r. ⌜ (let table = lentTable n s t tails heads capacities in
+        r .answer .refusal ≡ 0 → Best table (take (length (before capacities)) (after flow)) (take n (after side)) (r .answer .value)) ⌝ }
 {
     let solving = solver::has_room(n, capacities.len(), flow.len(), side.len(), work.len());
     let room = has_small_room(

@@ -5,9 +5,10 @@ use table::Verdict;
 ghost use mathlib.Core.Path.{_≡_};
 ghost use Prim.Native.Nat.{_≤_};
 ghost use lib.ListN.{length, drop};
-ghost use Rattle.table.specs.Table.{tableOf};
+ghost use Rattle.rows.specs.Lent.{before, after};
+ghost use Rattle.table.specs.Table.{lentTable};
 ghost use Rattle.table.specs.Refusals.{numberOf};
-ghost use Rattle.minimums.specs.BoundedTable.{boundedOf};
+ghost use Rattle.minimums.specs.BoundedTable.{lentBounded};
 ghost use Rattle.pen.specs.Printed.{printed};
 ghost use Rattle.pen.specs.Wrote.{Wrote};
 ghost use Rattle.wording.specs.Text.{lineOf, flowFront, flowLines};
@@ -66,7 +67,7 @@ fn line_length(tail: u32, head: u32, flow: u32) -> usize
 // How many bytes the lines of the arcs have.
 fn lines_length(tails: &[u32], heads: &[u32], flow: &[u32]) -> usize
     requires { ⌜ ArcsWith (now tails) (now heads) (now flow) ⌝ }
-    ensures { λ r. ⌜ (r ≡ length (flowLines (now (tails .entry)) (now (heads .entry)) (now (flow .entry)))) × (r ≤ 266240) ⌝ }
+    ensures { λ r. ⌜ (r ≡ length (flowLines (before tails) (before heads) (before flow))) × (r ≤ 266240) ⌝ }
 {
     let mut length: usize = 0;
     let mut place: usize = 0;
@@ -80,7 +81,7 @@ fn lines_length(tails: &[u32], heads: &[u32], flow: &[u32]) -> usize
 // What the line of an arc's flow begins with: `f TAIL HEAD `.
 fn put_front(out: &mut [u8], at: usize, tail: u32, head: u32) -> usize
     requires { ⌜ at ≤ length (now out) ⌝ }
-    ensures { λ r. ⌜ Wrote (now (out .entry)) at (flowFront tail head) (now (out .exit)) r ⌝ }
+    ensures { λ r. ⌜ Wrote (before out) at (flowFront tail head) (after out) r ⌝ }
 {
     let ends = pen::put_bytes(out, at, b"f ");
     let between = pen::put_number(out, ends, rows::wide(tail));
@@ -92,7 +93,7 @@ fn put_front(out: &mut [u8], at: usize, tail: u32, head: u32) -> usize
 // The line of an arc's flow.
 fn put_flow(out: &mut [u8], at: usize, tail: u32, head: u32, flow: u32) -> usize
     requires { ⌜ at ≤ length (now out) ⌝ }
-    ensures { λ r. ⌜ Wrote (now (out .entry)) at (lineOf (flowFront tail head) flow) (now (out .exit)) r ⌝ }
+    ensures { λ r. ⌜ Wrote (before out) at (lineOf (flowFront tail head) flow) (after out) r ⌝ }
 {
     let number = put_front(out, at, tail, head);
     let end = pen::put_number(out, number, rows::wide(flow));
@@ -102,7 +103,7 @@ fn put_flow(out: &mut [u8], at: usize, tail: u32, head: u32, flow: u32) -> usize
 // The lines of the arcs.
 fn put_flows(out: &mut [u8], at: usize, tails: &[u32], heads: &[u32], flow: &[u32]) -> usize
     requires { ⌜ (at ≤ length (now out)) × ArcsWith (now tails) (now heads) (now flow) ⌝ }
-    ensures { λ r. ⌜ Wrote (now (out .entry)) at (flowLines (now (tails .entry)) (now (heads .entry)) (now (flow .entry))) (now (out .exit)) r ⌝ }
+    ensures { λ r. ⌜ Wrote (before out) at (flowLines (before tails) (before heads) (before flow)) (after out) r ⌝ }
 {
     let mut end = at;
     let mut place: usize = 0;
@@ -116,7 +117,7 @@ fn put_flows(out: &mut [u8], at: usize, tails: &[u32], heads: &[u32], flow: &[u3
 // SOLUTION at the first flow above its capacity.
 fn first_above(capacities: &[u32], flow: &[u32]) -> Verdict
     requires { ⌜ (length (now capacities) ≤ 4096) × (length (now capacities) ≤ length (now flow)) ⌝ }
-    ensures { λ r. ⌜ r ≡ firstAbove 0 (now (capacities .entry)) (now (flow .entry)) ⌝ }
+    ensures { λ r. ⌜ r ≡ firstAbove 0 (before capacities) (before flow) ⌝ }
 {
     let mut place: usize = 0;
     while place < capacities.len() {
@@ -131,7 +132,7 @@ fn first_above(capacities: &[u32], flow: &[u32]) -> Verdict
 // SOLUTION at the first flow above its capacity, or at m for a value that no flow has.
 fn numbers_verdict(capacities: &[u32], value: u64, flow: &[u32]) -> Verdict
     requires { ⌜ (length (now capacities) ≤ 4096) × (length (now capacities) ≤ length (now flow)) ⌝ }
-    ensures { λ r. ⌜ r ≡ numbersVerdict (now (capacities .entry)) value (now (flow .entry)) ⌝ }
+    ensures { λ r. ⌜ r ≡ numbersVerdict (before capacities) value (before flow) ⌝ }
 {
     let above = first_above(capacities, flow);
     if !table::is_fine(above) {
@@ -156,7 +157,7 @@ fn has_text_room(
     text: usize,
 ) -> bool
     requires { ⌜ ArcsWith (now tails) (now heads) (now capacities) × (length (now capacities) ≡ length (now tails)) ⌝ }
-    ensures { λ r. ⌜ r ≡ hasTextRoom (tableOf n s t (now (tails .entry)) (now (heads .entry)) (now (capacities .entry))) value (now (flow .entry)) text ⌝ }
+    ensures { λ r. ⌜ r ≡ hasTextRoom (lentTable n s t tails heads capacities) value (before flow) text ⌝ }
 {
     if flow.len() < capacities.len() {
         return false;
@@ -177,7 +178,7 @@ fn writing_verdict(
     flow: &[u32],
     text: usize,
 ) -> Verdict
-    ensures { λ r. ⌜ r ≡ writingVerdict (boundedOf n s t (now (tails .entry)) (now (heads .entry)) (now (capacities .entry)) (now (minimums .entry))) value (now (flow .entry)) text ⌝ }
+    ensures { λ r. ⌜ r ≡ writingVerdict (lentBounded n s t tails heads capacities minimums) value (before flow) text ⌝ }
 {
     let found = minimums::plain_check(n, tails, heads, capacities, minimums, s, t, true);
     if !table::is_fine(found) {
@@ -202,7 +203,7 @@ pub fn write(
     flow: &[u32],
     text: &mut [u8],
 ) -> Written
-    ensures { λ r. ⌜ leftWritten r (now (text .exit)) ≡ writing (boundedOf n s t (now (tails .entry)) (now (heads .entry)) (now (capacities .entry)) (now (minimums .entry))) value (now (flow .entry)) (now (text .entry)) ⌝ }
+    ensures { λ r. ⌜ leftWritten r (after text) ≡ writing (lentBounded n s t tails heads capacities minimums) value (before flow) (before text) ⌝ }
 {
     match writing_verdict(
         n,
@@ -237,7 +238,7 @@ pub fn write(
 
 // The number that a line says behind these bytes, if it begins with them and its number is not above `most`.
 fn number_behind(line: &[u8], front: &[u8], most: u32) -> Number
-    ensures { λ r. ⌜ r ≡ numberBehind (now (front .entry)) most (now (line .entry)) ⌝ }
+    ensures { λ r. ⌜ r ≡ numberBehind (before front) most (before line) ⌝ }
 {
     if !scan::begins_with(line, front) {
         return Number::NoNumber;
@@ -253,7 +254,7 @@ fn number_behind(line: &[u8], front: &[u8], most: u32) -> Number
 
 // The flow that the line of an arc says, if it is one of that arc within the capacity.
 fn flow_said(line: &[u8], tail: u32, head: u32, capacity: u32) -> Number
-    ensures { λ r. ⌜ r ≡ numberBehind (flowFront tail head) capacity (now (line .entry)) ⌝ }
+    ensures { λ r. ⌜ r ≡ numberBehind (flowFront tail head) capacity (before line) ⌝ }
 {
     let mut front = [0u8; 48];
     let end = put_front(&mut front, 0, tail, head);
@@ -270,7 +271,8 @@ fn read_flows(
     row: &mut [u32],
 ) -> Lines
     requires { ⌜ (from ≤ length (now text)) × ArcsWith (now tails) (now heads) (now row) × (length (now capacities) ≡ length (now tails)) ⌝ }
-    ensures { λ r. ⌜ Finds (flowsSaid (now (tails .entry)) (now (heads .entry)) (now (capacities .entry)) 2 (drop from (now (text .entry)))) r (length (now (tails .entry))) (now (row .exit)) ⌝ }
+    ensures { λ r. ⌜ (let said = flowsSaid (before tails) (before heads) (before capacities) 2 (drop from (before text)) in
+        Finds said r (length (before tails)) (after row)) ⌝ }
 {
     let mut at = from;
     let mut place: usize = 0;
@@ -320,7 +322,8 @@ fn read_row(
     flow: &mut [u32],
 ) -> ReadBack
     requires { ⌜ (from ≤ length (now text)) × ArcsWith (now tails) (now heads) (now flow) × (length (now capacities) ≡ length (now tails)) ⌝ }
-    ensures { λ r. ⌜ leftRead r (now (flow .exit)) ≡ leftBy (wordsOf value (flowsSaid (now (tails .entry)) (now (heads .entry)) (now (capacities .entry)) 2 (drop from (now (text .entry))))) (now (flow .entry)) ⌝ }
+    ensures { λ r. ⌜ leftRead r (after flow)
+        ≡ leftBy (wordsOf value (flowsSaid (before tails) (before heads) (before capacities) 2 (drop from (before text)))) (before flow) ⌝ }
 {
     let mut row = [0u32; 4096];
     match read_flows(text, from, tails, heads, capacities, &mut row) {
@@ -346,7 +349,7 @@ fn read_text(
     flow: &mut [u32],
 ) -> ReadBack
     requires { ⌜ ArcsWith (now tails) (now heads) (now flow) × (length (now capacities) ≡ length (now tails)) ⌝ }
-    ensures { λ r. ⌜ leftRead r (now (flow .exit)) ≡ leftBy (textWords (now (tails .entry)) (now (heads .entry)) (now (capacities .entry)) (now (text .entry))) (now (flow .entry)) ⌝ }
+    ensures { λ r. ⌜ leftRead r (after flow) ≡ leftBy (textWords (before tails) (before heads) (before capacities) (before text)) (before flow) ⌝ }
 {
     let end = scan::find(text, b'\n', 0);
     if text.len() <= end {
@@ -371,7 +374,7 @@ pub fn read(
     text: &[u8],
     flow: &mut [u32],
 ) -> ReadBack
-    ensures { λ r. ⌜ leftRead r (now (flow .exit)) ≡ reading (boundedOf n s t (now (tails .entry)) (now (heads .entry)) (now (capacities .entry)) (now (minimums .entry))) (now (text .entry)) (now (flow .entry)) ⌝ }
+    ensures { λ r. ⌜ leftRead r (after flow) ≡ reading (lentBounded n s t tails heads capacities minimums) (before text) (before flow) ⌝ }
 {
     match intake::text_verdict(
         n,

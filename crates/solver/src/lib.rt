@@ -5,11 +5,12 @@ ghost use mathlib.Core.Path.{_≡_};
 ghost use mathlib.Core.List.{_++_};
 ghost use Prim.Native.Nat.{_^_, _≤_, _<_};
 ghost use lib.ListN.{length, take, drop};
+ghost use Rattle.rows.specs.Lent.{before, after};
 ghost use Rattle.rows.specs.Row.{cleared};
-ghost use Rattle.table.specs.Table.{tableOf};
+ghost use Rattle.table.specs.Table.{lentTable, givenTable};
 ghost use Rattle.table.specs.Accepted.{Accepted};
 ghost use Rattle.arcs.specs.Work.{InWork, workNeed};
-ghost use Rattle.solver.specs.Solving.{left, hasRoom, refusal, answerWith, solved};
+ghost use Rattle.solver.specs.Solving.{hasRoom, refusal, answerWith, solved, leftIn, GivenRoom};
 ghost use Rattle.solver.specs.Filled.{Filled};
 
 // What solving returns: a refusal's number and place, or 0 with the results.
@@ -88,9 +89,9 @@ pub fn solve_filled(
     side: &mut [u8],
     work: &mut [u32],
 ) -> Answer
-    requires { ⌜ Accepted (tableOf n s t (now tails) (now heads) (now capacities)) × InWork (tableOf n s t (now tails) (now heads) (now capacities)) (now work) ⌝ }
+    requires { ⌜ (let table = givenTable n s t tails heads capacities in Accepted table × InWork table (now work)) ⌝ }
     requires { ⌜ (length (now flow) ≡ length (now capacities)) × (n ≤ length (now side)) ⌝ }
-    ensures { λ r. ⌜ Filled (tableOf n s t (now (tails .entry)) (now (heads .entry)) (now (capacities .entry))) stamp (now (side .entry)) (now (work .entry)) r (now (flow .exit)) (now (side .exit)) (now (work .exit)) ⌝ }
+    ensures { λ r. ⌜ Filled (lentTable n s t tails heads capacities) stamp (before side) (before work) r (after flow) (after side) (after work) ⌝ }
 {
     let outcome = work::run(n, s, t, tails, heads, capacities, flow, work);
     let value = start::value(tails, heads, flow, s);
@@ -111,9 +112,10 @@ fn solve_rows(
     side: &mut [u8],
     work: &mut [u32],
 ) -> Answer
-    requires { ⌜ Accepted (tableOf n s t (now tails) (now heads) (now capacities)) ⌝ }
-    requires { ⌜ (length (now flow) ≡ length (now capacities)) × (n ≤ length (now side)) × (workNeed n (length (now capacities)) ≤ length (now work)) ⌝ }
-    ensures { λ r. ⌜ left r (now (flow .exit)) (now (side .exit)) (now (work .exit)) ≡ solved (tableOf n s t (now (tails .entry)) (now (heads .entry)) (now (capacities .entry))) stamp (now (flow .entry)) (now (side .entry)) (now (work .entry)) ⌝ }
+    requires { ⌜ Accepted (givenTable n s t tails heads capacities) ⌝ }
+    requires { ⌜ (length (now flow) ≡ length (now capacities)) × (n ≤ length (now side))
+        × (workNeed n (length (now capacities)) ≤ length (now work)) ⌝ }
+    ensures { λ r. ⌜ leftIn r flow side work ≡ solved (lentTable n s t tails heads capacities) stamp (before flow) (before side) (before work) ⌝ }
 {
     arcs::fill_work(n, tails, heads, work);
     let answer = solve_filled(n, s, t, stamp, tails, heads, capacities, flow, side, work);
@@ -134,9 +136,9 @@ pub fn solve_table(
     side: &mut [u8],
     work: &mut [u32],
 ) -> Answer
-    requires { ⌜ Accepted (tableOf n s t (now tails) (now heads) (now capacities)) ⌝ }
-    requires { ⌜ (length (now capacities) ≤ length (now flow)) × (n ≤ length (now side)) × (workNeed n (length (now capacities)) ≤ length (now work)) ⌝ }
-    ensures { λ r. ⌜ left r (now (flow .exit)) (now (side .exit)) (now (work .exit)) ≡ solved (tableOf n s t (now (tails .entry)) (now (heads .entry)) (now (capacities .entry))) stamp (now (flow .entry)) (now (side .entry)) (now (work .entry)) ⌝ }
+    requires { ⌜ Accepted (givenTable n s t tails heads capacities) ⌝ }
+    requires { ⌜ GivenRoom n capacities flow side work ⌝ }
+    ensures { λ r. ⌜ leftIn r flow side work ≡ solved (lentTable n s t tails heads capacities) stamp (before flow) (before side) (before work) ⌝ }
 {
     let m = capacities.len();
     solve_rows(
@@ -165,9 +167,9 @@ pub fn hand_over(
 )
     requires { ⌜ (m ≤ length (now flows)) × (n ≤ length (now marks)) ⌝ }
     requires { ⌜ (m < 2 ^ 61) × (m ≤ length (now flow)) × (n ≤ length (now side)) × (workNeed n m ≤ length (now work)) ⌝ }
-    ensures { λ _. ⌜ now (flow .exit) ≡ take m (now (flows .entry)) ++ drop m (now (flow .entry)) ⌝ }
-    ensures { λ _. ⌜ now (side .exit) ≡ take n (now (marks .entry)) ++ drop n (now (side .entry)) ⌝ }
-    ensures { λ _. ⌜ now (work .exit) ≡ cleared (workNeed n m) (now (work .entry)) ⌝ }
+    ensures { λ _. ⌜ after flow ≡ take m (before flows) ++ drop m (before flow) ⌝ }
+    ensures { λ _. ⌜ after side ≡ take n (before marks) ++ drop n (before side) ⌝ }
+    ensures { λ _. ⌜ after work ≡ cleared (workNeed n m) (before work) ⌝ }
 {
     let nodes = n as usize;
     rows::store(flow, 0, &flows[..m]);

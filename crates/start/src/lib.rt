@@ -3,8 +3,9 @@ ghost use mathlib.Core.Path.{_≡_};
 ghost use mathlib.Core.List.{List, _++_};
 ghost use Prim.Native.Nat.{ℕ, _+_, _^_, _≤_, _<_};
 ghost use lib.ListN.{length, drop};
+ghost use Rattle.rows.specs.Lent.{before, after};
 ghost use Rattle.rows.specs.Row.{Node, atNode, byNode};
-ghost use Rattle.table.specs.Table.{tableOf};
+ghost use Rattle.table.specs.Table.{tableOf, lentTable};
 ghost use Rattle.table.specs.Accepted.{ArcRows};
 ghost use Rattle.run.specs.Start.{startFlow, startLabelAt, start};
 ghost use Rattle.run.specs.Scale.{largest, phasesFor, scaleOf};
@@ -14,7 +15,8 @@ ghost use Rattle.start.specs.Sums.{received, sumAt};
 // The start's flow: every arc leaving s is filled, all others are 0. Later places stay.
 pub fn start_flow(tails: &[u32], capacities: &[u32], flow: &mut [u32], s: u32)
     requires { ⌜ (length (now capacities) ≡ length (now tails)) × (length (now capacities) ≤ length (now flow)) ⌝ }
-    ensures { λ _. ⌜ ((n t : ℕ) (heads : List ℕ) → now (flow .exit) ≡ startFlow (tableOf n s t (now (tails .entry)) heads (now (capacities .entry))) ++ drop (length (now (capacities .entry))) (now (flow .entry))) ⌝ }
+    ensures { λ _. ⌜ ((n t : ℕ) (heads : List ℕ)
+        → after flow ≡ startFlow (tableOf n s t (before tails) heads (before capacities)) ++ drop (length (before capacities)) (before flow)) ⌝ }
 {
     let mut k = 0;
     while k < capacities.len() {
@@ -44,7 +46,8 @@ fn start_label(n: u32, s: u32, t: u32, i: u32) -> u32
 // The start's labels.
 pub fn start_labels(labels: &mut [u32], s: u32, t: u32)
     requires { ⌜ length (now labels) ≤ 512 ⌝ }
-    ensures { λ _. ⌜ ((tails heads capacities : List ℕ) → now (labels .exit) ≡ byNode (startLabelAt (tableOf (length (now (labels .entry))) s t tails heads capacities)) (length (now (labels .entry)))) ⌝ }
+    ensures { λ _. ⌜ ((tails heads capacities : List ℕ)
+        → after labels ≡ byNode (startLabelAt (tableOf (length (before labels)) s t tails heads capacities)) (length (before labels))) ⌝ }
 {
     let n = labels.len() as u32;
     let mut i: u32 = 0;
@@ -57,7 +60,7 @@ pub fn start_labels(labels: &mut [u32], s: u32, t: u32)
 // Node j receives c, unless it is the sink t, which holds nothing.
 fn receive(excess: &mut [u32], t: u32, j: u32, c: u32)
     requires { ⌜ Node (length (now excess)) j × (atNode (now excess) j + c < 2 ^ 32) ⌝ }
-    ensures { λ _. ⌜ now (excess .exit) ≡ received (now (excess .entry)) t j c ⌝ }
+    ensures { λ _. ⌜ after excess ≡ received (before excess) t j c ⌝ }
 {
     if j == t {
         return;
@@ -76,7 +79,7 @@ pub fn start_excess(
     t: u32,
 )
     requires { ⌜ ArcRows (length (now excess)) (now tails) (now heads) (now capacities) ⌝ }
-    ensures { λ _. ⌜ now (excess .exit) ≡ start (tableOf (length (now (excess .entry))) s t (now (tails .entry)) (now (heads .entry)) (now (capacities .entry))) .excess ⌝ }
+    ensures { λ _. ⌜ after excess ≡ start (lentTable (length (before excess)) s t tails heads capacities) .excess ⌝ }
 {
     rows::clear(excess, excess.len());
     let mut k = 0;
@@ -91,7 +94,7 @@ pub fn start_excess(
 
 // The largest number of a row.
 pub fn largest(row: &[u32]) -> u32
-    ensures { λ r. ⌜ r ≡ largest (now (row .entry)) ⌝ }
+    ensures { λ r. ⌜ r ≡ largest (before row) ⌝ }
 {
     let mut most: u32 = 0;
     let mut i = 0;
@@ -142,7 +145,7 @@ pub fn scale(phases: u32) -> u64
 // What the first places of a flow row take along arcs with end i: `ends` is the row of tails or of heads.
 pub fn sum_at(ends: &[u32], flow: &[u32], i: u32) -> u64
     requires { ⌜ (length (now ends) ≤ length (now flow)) × (length (now ends) ≤ 4096) ⌝ }
-    ensures { λ r. ⌜ r ≡ sumAt (now (ends .entry)) (now (flow .entry)) i (length (now (ends .entry))) ⌝ }
+    ensures { λ r. ⌜ r ≡ sumAt (before ends) (before flow) i (length (before ends)) ⌝ }
 {
     let mut sum: u64 = 0;
     let mut k = 0;
@@ -160,7 +163,8 @@ pub fn sum_at(ends: &[u32], flow: &[u32], i: u32) -> u64
 pub fn value(tails: &[u32], heads: &[u32], flow: &[u32], s: u32) -> u64
     requires { ⌜ (length (now heads) ≡ length (now tails)) × (length (now tails) ≤ length (now flow)) × (length (now tails) ≤ 4096) ⌝ }
     requires { ⌜ sumAt (now heads) (now flow) s (length (now heads)) ≤ sumAt (now tails) (now flow) s (length (now tails)) ⌝ }
-    ensures { λ r. ⌜ ((n t : ℕ) (capacities : List ℕ) → length capacities ≡ length (now (tails .entry)) → r ≡ value (tableOf n s t (now (tails .entry)) (now (heads .entry)) capacities) (now (flow .entry))) ⌝ }
+    ensures { λ r. ⌜ ((n t : ℕ) (capacities : List ℕ) → length capacities ≡ length (before tails)
+        → r ≡ value (tableOf n s t (before tails) (before heads) capacities) (before flow)) ⌝ }
 {
     sum_at(tails, flow, s) - sum_at(heads, flow, s)
 }

@@ -5,8 +5,9 @@ ghost use mathlib.Core.Bool.{true};
 ghost use mathlib.Core.List.{List};
 ghost use Prim.Native.Nat.{ℕ, _+_, _-_, _*_, _^_, _≤_, _<_, min};
 ghost use lib.ListN.{length};
+ghost use Rattle.rows.specs.Lent.{before, after};
 ghost use Rattle.rows.specs.Row.{Node, atPlace, atNode};
-ghost use Rattle.table.specs.Table.{tableOf};
+ghost use Rattle.table.specs.Table.{tableOf, lentTable};
 ghost use Rattle.table.specs.Accepted.{ArcEnds, ArcRows};
 ghost use Rattle.arcs.specs.Residual.{far, residual};
 ghost use Rattle.run.specs.Push.{eligible, amount, along, moved};
@@ -33,7 +34,7 @@ pub struct Lowest {
 pub fn far(tails: &[u32], heads: &[u32], i: u32, k: u32) -> u32
     requires { ⌜ ((n : ℕ) × ArcEnds n (now tails) (now heads)) ⌝ }
     requires { ⌜ (k < length (now tails)) × (touching (now tails) (now heads) i k ≡ true) ⌝ }
-    ensures { λ r. ⌜ ((n s t : ℕ) (capacities : List ℕ) → r ≡ far (tableOf n s t (now (tails .entry)) (now (heads .entry)) capacities) i k) ⌝ }
+    ensures { λ r. ⌜ ((n s t : ℕ) (capacities : List ℕ) → r ≡ far (tableOf n s t (before tails) (before heads) capacities) i k) ⌝ }
 {
     tails[k as usize] + heads[k as usize] - i
 }
@@ -42,7 +43,7 @@ pub fn far(tails: &[u32], heads: &[u32], i: u32, k: u32) -> u32
 fn residual(tails: &[u32], capacities: &[u32], flow: &[u32], i: u32, k: u32) -> u32
     requires { ⌜ (k < length (now tails)) × (k < length (now capacities)) ⌝ }
     requires { ⌜ WithinCapacities (now capacities) (now flow) ⌝ }
-    ensures { λ r. ⌜ ((n s t : ℕ) (heads : List ℕ) → r ≡ residual (tableOf n s t (now (tails .entry)) heads (now (capacities .entry))) (now (flow .entry)) i k) ⌝ }
+    ensures { λ r. ⌜ ((n s t : ℕ) (heads : List ℕ) → r ≡ residual (tableOf n s t (before tails) heads (before capacities)) (before flow) i k) ⌝ }
 {
     let tail = tails[k as usize];
     if tail == i {
@@ -64,7 +65,8 @@ fn eligible(
     requires { ⌜ ArcRows (length (now labels)) (now tails) (now heads) (now capacities) ⌝ }
     requires { ⌜ WithinCapacities (now capacities) (now flow) ⌝ }
     requires { ⌜ Node (length (now labels)) i × (k < length (now capacities)) × (touching (now tails) (now heads) i k ≡ true) ⌝ }
-    ensures { λ r. ⌜ ((n s t : ℕ) (excess : List ℕ) → r ≡ eligible (tableOf n s t (now (tails .entry)) (now (heads .entry)) (now (capacities .entry))) (stateOf (now (flow .entry)) excess (now (labels .entry))) i k) ⌝ }
+    ensures { λ r. ⌜ ((n s t : ℕ) (excess : List ℕ) → (let table = lentTable n s t tails heads capacities in
+        r ≡ eligible table (stateOf (before flow) excess (before labels)) i k)) ⌝ }
 {
     let there = rows::wide(rows::at_node(labels, far(tails, heads, i, k)));
     if there + 1 == rows::wide(rows::at_node(labels, i)) {
@@ -88,7 +90,9 @@ pub fn search(
     requires { ⌜ WithinCapacities (now capacities) (now flow) ⌝ }
     requires { ⌜ Node (length (now labels)) i × AllTouch (length (now capacities)) (now tails) (now heads) i (now list) ⌝ }
     requires { ⌜ (from ≤ length (now list)) × (length (now list) < 2 ^ 32) ⌝ }
-    ensures { λ r. ⌜ ((n s t : ℕ) (excess : List ℕ) → NoneBefore (tableOf n s t (now (tails .entry)) (now (heads .entry)) (now (capacities .entry))) (stateOf (now (flow .entry)) excess (now (labels .entry))) i (now (list .entry)) from → SpotIs (tableOf n s t (now (tails .entry)) (now (heads .entry)) (now (capacities .entry))) (stateOf (now (flow .entry)) excess (now (labels .entry))) i (now (list .entry)) r) ⌝ }
+    ensures { λ r. ⌜ ((n s t : ℕ) (excess : List ℕ) → (let table = lentTable n s t tails heads capacities in
+        let state = stateOf (before flow) excess (before labels) in
+        NoneBefore table state i (before list) from → SpotIs table state i (before list) r)) ⌝ }
 {
     let mut j = from as usize;
     while j < list.len() {
@@ -115,7 +119,8 @@ fn lesser(
     requires { ⌜ ArcRows (length (now labels)) (now tails) (now heads) (now capacities) ⌝ }
     requires { ⌜ WithinCapacities (now capacities) (now flow) ⌝ }
     requires { ⌜ (k < length (now capacities)) × (touching (now tails) (now heads) i k ≡ true) ⌝ }
-    ensures { λ r. ⌜ ((n s t : ℕ) (excess : List ℕ) → r ≡ lesser (tableOf n s t (now (tails .entry)) (now (heads .entry)) (now (capacities .entry))) (stateOf (now (flow .entry)) excess (now (labels .entry))) i k best) ⌝ }
+    ensures { λ r. ⌜ ((n s t : ℕ) (excess : List ℕ) → (let table = lentTable n s t tails heads capacities in
+        r ≡ lesser table (stateOf (before flow) excess (before labels)) i k best)) ⌝ }
     ensures { λ r. ⌜ r ≤ best ⌝ }
 {
     let label = rows::at_node(labels, far(tails, heads, i, k));
@@ -153,9 +158,11 @@ fn least_far(
     requires { ⌜ ArcRows (length (now labels)) (now tails) (now heads) (now capacities) ⌝ }
     requires { ⌜ WithinCapacities (now capacities) (now flow) ⌝ }
     requires { ⌜ AllTouch (length (now capacities)) (now tails) (now heads) i (now list) × (length (now list) < 2 ^ 32) ⌝ }
-    ensures { λ r. ⌜ (r .label ≤ best) × (r .at ≤ length (now (list .entry))) ⌝ }
-    ensures { λ r. ⌜ ((n s t : ℕ) (excess : List ℕ) → r .label ≡ leastFar (tableOf n s t (now (tails .entry)) (now (heads .entry)) (now (capacities .entry))) (stateOf (now (flow .entry)) excess (now (labels .entry))) i (now (list .entry)) best) ⌝ }
-    ensures { λ r. ⌜ ((n s t : ℕ) (excess : List ℕ) → HighBefore (tableOf n s t (now (tails .entry)) (now (heads .entry)) (now (capacities .entry))) (stateOf (now (flow .entry)) excess (now (labels .entry))) i (now (list .entry)) (r .at) (r .label + 1)) ⌝ }
+    ensures { λ r. ⌜ (r .label ≤ best) × (r .at ≤ length (before list)) ⌝ }
+    ensures { λ r. ⌜ ((n s t : ℕ) (excess : List ℕ) → (let table = lentTable n s t tails heads capacities in
+        r .label ≡ leastFar table (stateOf (before flow) excess (before labels)) i (before list) best)) ⌝ }
+    ensures { λ r. ⌜ ((n s t : ℕ) (excess : List ℕ) → (let table = lentTable n s t tails heads capacities in
+        HighBefore table (stateOf (before flow) excess (before labels)) i (before list) (r .at) (r .label + 1))) ⌝ }
 {
     let mut least = best;
     let mut at: u32 = 0;
@@ -186,9 +193,11 @@ pub fn new_label(
     requires { ⌜ ArcRows (length (now labels)) (now tails) (now heads) (now capacities) ⌝ }
     requires { ⌜ WithinCapacities (now capacities) (now flow) ⌝ }
     requires { ⌜ AllTouch (length (now capacities)) (now tails) (now heads) i (now list) × (length (now list) < 2 ^ 32) ⌝ }
-    ensures { λ r. ⌜ r .at ≤ length (now (list .entry)) ⌝ }
-    ensures { λ r. ⌜ ((s t : ℕ) (excess : List ℕ) → r .label ≡ leastFar (tableOf (length (now (labels .entry))) s t (now (tails .entry)) (now (heads .entry)) (now (capacities .entry))) (stateOf (now (flow .entry)) excess (now (labels .entry))) i (now (list .entry)) (2 * length (now (labels .entry))) + 1) ⌝ }
-    ensures { λ r. ⌜ ((n s t : ℕ) (excess : List ℕ) → HighBefore (tableOf n s t (now (tails .entry)) (now (heads .entry)) (now (capacities .entry))) (stateOf (now (flow .entry)) excess (now (labels .entry))) i (now (list .entry)) (r .at) (r .label)) ⌝ }
+    ensures { λ r. ⌜ r .at ≤ length (before list) ⌝ }
+    ensures { λ r. ⌜ ((s t : ℕ) (excess : List ℕ) → (let table = lentTable (length (before labels)) s t tails heads capacities in
+        r .label ≡ leastFar table (stateOf (before flow) excess (before labels)) i (before list) (2 * length (before labels)) + 1)) ⌝ }
+    ensures { λ r. ⌜ ((n s t : ℕ) (excess : List ℕ) → (let table = lentTable n s t tails heads capacities in
+        HighBefore table (stateOf (before flow) excess (before labels)) i (before list) (r .at) (r .label))) ⌝ }
 {
     let n = labels.len() as u32;
     let found = least_far(tails, heads, capacities, flow, labels, list, i, 2 * n);
@@ -223,7 +232,8 @@ fn amount(
     requires { ⌜ WithinCapacities (now capacities) (now flow) ⌝ }
     requires { ⌜ Node (length (now excess)) i × (k < length (now capacities)) × (touching (now tails) (now heads) i k ≡ true) ⌝ }
     requires { ⌜ AtMost delta (now excess) ⌝ }
-    ensures { λ r. ⌜ ((n s t : ℕ) (label : List ℕ) → r ≡ amount (tableOf n s t (now (tails .entry)) (now (heads .entry)) (now (capacities .entry))) delta (stateOf (now (flow .entry)) (now (excess .entry)) label) i k) ⌝ }
+    ensures { λ r. ⌜ ((n s t : ℕ) (label : List ℕ) → (let table = lentTable n s t tails heads capacities in
+        r ≡ amount table delta (stateOf (before flow) (before excess) label) i k)) ⌝ }
 {
     let held = rows::wide(rows::at_node(excess, i));
     let left = rows::wide(residual(tails, capacities, flow, i, k));
@@ -236,7 +246,8 @@ fn send(tails: &[u32], flow: &mut [u32], i: u32, k: u32, d: u32)
     requires { ⌜ (k < length (now tails)) × (k < length (now flow)) ⌝ }
     requires { ⌜ ((atPlace (now tails) k ≡ i) → atPlace (now flow) k + d < 2 ^ 32) ⌝ }
     requires { ⌜ ((atPlace (now tails) k ≡ i → ⊥) → d ≤ atPlace (now flow) k) ⌝ }
-    ensures { λ _. ⌜ ((n s t : ℕ) (heads capacities : List ℕ) → now (flow .exit) ≡ along (tableOf n s t (now (tails .entry)) heads capacities) (now (flow .entry)) i k d) ⌝ }
+    ensures { λ _. ⌜ ((n s t : ℕ) (heads capacities : List ℕ)
+        → after flow ≡ along (tableOf n s t (before tails) heads capacities) (before flow) i k d) ⌝ }
 {
     let tail = tails[k as usize];
     let before = flow[k as usize];
@@ -252,7 +263,8 @@ fn shift(excess: &mut [u32], s: u32, t: u32, i: u32, j: u32, d: u32)
     requires { ⌜ Node (length (now excess)) i × Node (length (now excess)) j ⌝ }
     requires { ⌜ (i ≡ j → ⊥) ⌝ }
     requires { ⌜ (d ≤ atNode (now excess) i) × (atNode (now excess) j + d < 2 ^ 32) ⌝ }
-    ensures { λ _. ⌜ ((n : ℕ) (tails heads capacities : List ℕ) → now (excess .exit) ≡ moved (tableOf n s t tails heads capacities) (now (excess .entry)) i j d) ⌝ }
+    ensures { λ _. ⌜ ((n : ℕ) (tails heads capacities : List ℕ)
+        → after excess ≡ moved (tableOf n s t tails heads capacities) (before excess) i j d) ⌝ }
 {
     let held = rows::at_node(excess, i);
     rows::set_node(excess, i, held - d);
@@ -283,7 +295,8 @@ pub fn push(
     requires { ⌜ WithinCapacities (now capacities) (now flow) ⌝ }
     requires { ⌜ Node (length (now excess)) i × (k < length (now capacities)) × (touching (now tails) (now heads) i k ≡ true) ⌝ }
     requires { ⌜ AtMost delta (now excess) × (total (now excess) < 2 ^ 32) ⌝ }
-    ensures { λ r. ⌜ ((n : ℕ) (label : List ℕ) → Pushed (tableOf n s t (now (tails .entry)) (now (heads .entry)) (now (capacities .entry))) delta (stateOf (now (flow .entry)) (now (excess .entry)) label) i k (now (flow .exit)) (now (excess .exit)) r) ⌝ }
+    ensures { λ r. ⌜ ((n : ℕ) (label : List ℕ) → (let table = lentTable n s t tails heads capacities in
+        Pushed table delta (stateOf (before flow) (before excess) label) i k (after flow) (after excess) r)) ⌝ }
 {
     let left = residual(tails, capacities, flow, i, k);
     let j = far(tails, heads, i, k);

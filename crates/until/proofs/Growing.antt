@@ -211,8 +211,3 @@ module _ (t : Table) (ok : Accepted t) where
             (λ k l. omega (arith, only-le (eqb (head t k) (t .sink)) (atPlace (st .flow) k), facts .pre .high k l)),
         capacity-in-all t ok,
       )
-
-  -- So is the value.
-  pub run-value : value t (run t .state .flow) ≤ 4096000000
-  unfolding run
-  run-value = omega (arith, end-value, into-sink-bound (run t .state) (end-facts t ok))

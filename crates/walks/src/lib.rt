@@ -6,6 +6,7 @@ ghost use Prim.Native.Nat.{_+_, _-_, _^_, _≤_, _<_, min};
 ghost use lib.ListN.{length, take};
 ghost use lib.Seq.{sets};
 ghost use lib.Dec.{eqb, ltb};
+ghost use Rattle.rows.specs.Lent.{before, after};
 ghost use Rattle.rows.specs.Row.{Node};
 ghost use Rattle.table.specs.Accepted.{ArcEnds};
 ghost use Rattle.arcs.specs.Residual.{Places};
@@ -28,7 +29,7 @@ fn leads_on(tail: u32, i: u32, left: u32) -> bool
 fn next_place(tails: &[u32], left: &[u32], i: u32, from: usize) -> usize
     requires { ⌜ (length (now left) ≡ length (now tails)) × (from ≤ length (now tails)) ⌝ }
     requires { ⌜ NoneBefore (leadsOn (now tails) (now left) i) from ⌝ }
-    ensures { λ r. ⌜ r ≡ onward (now (tails .entry)) (now (left .entry)) i ⌝ }
+    ensures { λ r. ⌜ r ≡ onward (before tails) (before left) i ⌝ }
 {
     let mut k = from;
     while k < tails.len() {
@@ -44,7 +45,7 @@ fn next_place(tails: &[u32], left: &[u32], i: u32, from: usize) -> usize
 fn first_left(tails: &[u32], left: &[u32], from: usize) -> usize
     requires { ⌜ (length (now left) ≡ length (now tails)) × (from ≤ length (now tails)) ⌝ }
     requires { ⌜ NoneBefore (hasLeft (now left)) from ⌝ }
-    ensures { λ r. ⌜ r ≡ remaining (now (tails .entry)) (now (left .entry)) ⌝ }
+    ensures { λ r. ⌜ r ≡ remaining (before tails) (before left) ⌝ }
 {
     let mut k = from;
     while k < tails.len() {
@@ -60,8 +61,8 @@ fn first_left(tails: &[u32], left: &[u32], from: usize) -> usize
 fn leave(tails: &[u32], left: &[u32], first: &mut [u32], i: u32) -> usize
     requires { ⌜ (length (now left) ≡ length (now tails)) × (length (now tails) ≤ 4096) ⌝ }
     requires { ⌜ Node (length (now first)) i × Ahead (now tails) (now left) (now first) ⌝ }
-    ensures { λ r. ⌜ r ≡ onward (now (tails .entry)) (now (left .entry)) i ⌝ }
-    ensures { λ _. ⌜ Ahead (now (tails .entry)) (now (left .entry)) (now (first .exit)) ⌝ }
+    ensures { λ r. ⌜ r ≡ onward (before tails) (before left) i ⌝ }
+    ensures { λ _. ⌜ Ahead (before tails) (before left) (after first) ⌝ }
 {
     let from = rows::at_node(first, i) as usize;
     let k = next_place(tails, left, i, from);
@@ -73,7 +74,7 @@ fn leave(tails: &[u32], left: &[u32], first: &mut [u32], i: u32) -> usize
 fn when_left(tails: &[u32], walked: &[u32], turns: &[u32], j: u32) -> usize
     requires { ⌜ Places (length (now tails)) (now walked) × Noted (now tails) (now walked) (now turns) ⌝ }
     requires { ⌜ Node (length (now turns)) j ⌝ }
-    ensures { λ r. ⌜ r ≡ standing (now (tails .entry)) (now (walked .entry)) j ⌝ }
+    ensures { λ r. ⌜ r ≡ standing (before tails) (before walked) j ⌝ }
 {
     let q = rows::at_node(turns, j) as usize;
     if q < walked.len() {
@@ -90,8 +91,8 @@ fn start_at(source: u32, tails: &[u32], left: &[u32], first: &mut [u32], lowest:
     requires { ⌜ (length (now left) ≡ length (now tails)) × (length (now tails) ≤ 4096) ⌝ }
     requires { ⌜ Node (length (now first)) source × Ahead (now tails) (now left) (now first) ⌝ }
     requires { ⌜ (lowest ≡ remaining (now tails) (now left)) × (lowest < length (now tails)) ⌝ }
-    ensures { λ r. ⌜ r ≡ startAt (now (tails .entry)) source (now (left .entry)) ⌝ }
-    ensures { λ _. ⌜ Ahead (now (tails .entry)) (now (left .entry)) (now (first .exit)) ⌝ }
+    ensures { λ r. ⌜ r ≡ startAt (before tails) source (before left) ⌝ }
+    ensures { λ _. ⌜ Ahead (before tails) (before left) (after first) ⌝ }
 {
     if leave(tails, left, first, source) < tails.len() {
         return source;
@@ -122,8 +123,9 @@ fn follow(
 ) -> Trip
     requires { ⌜ Ready nodes (now tails) (now heads) (now left) (now first) ⌝ }
     requires { ⌜ (nodes ≤ length (now walked)) × (nodes ≤ length (now turns)) × Node nodes start ⌝ }
-    ensures { λ r. ⌜ Went (length (now (tails .entry))) (walk (now (tails .entry)) (now (heads .entry)) sink (now (left .entry)) nodes [] start) (now (walked .exit)) (r .kind) (r .from) (r .end) ⌝ }
-    ensures { λ _. ⌜ Ahead (now (tails .entry)) (now (left .entry)) (now (first .exit)) ⌝ }
+    ensures { λ r. ⌜ (let path = walk (before tails) (before heads) sink (before left) nodes [] start in
+        Went (length (before tails)) path (after walked) (r .kind) (r .from) (r .end)) ⌝ }
+    ensures { λ _. ⌜ Ahead (before tails) (before left) (after first) ⌝ }
 {
     let mut i = start;
     let mut count = 0;
@@ -188,7 +190,7 @@ fn less(a: u32, b: u32) -> u32
 // The least flow left at these places; 0 where there are none.
 fn least_left(left: &[u32], places: &[u32]) -> u32
     requires { ⌜ Places (length (now left)) (now places) ⌝ }
-    ensures { λ r. ⌜ r ≡ least (now (left .entry)) (now (places .entry)) ⌝ }
+    ensures { λ r. ⌜ r ≡ least (before left) (before places) ⌝ }
 {
     if places.len() < 1 {
         return 0;
@@ -207,7 +209,7 @@ fn least_left(left: &[u32], places: &[u32]) -> u32
 // Takes an amount away at each of these places.
 fn take_away(left: &mut [u32], places: &[u32], amount: u32)
     requires { ⌜ Places (length (now left)) (now places) ⌝ }
-    ensures { λ _. ⌜ now (left .exit) ≡ takeAway amount (now (places .entry)) (now (left .entry)) ⌝ }
+    ensures { λ _. ⌜ after left ≡ takeAway amount (before places) (before left) ⌝ }
 {
     let mut q = 0;
     while q < places.len() {
@@ -241,9 +243,9 @@ fn take_next(
     requires { ⌜ Ready nodes (now tails) (now heads) (now left) (now first) ⌝ }
     requires { ⌜ (nodes ≤ length (now walked)) × (length (now walked) ≤ 512) × (nodes ≤ length (now turns)) × Node nodes source ⌝ }
     requires { ⌜ (lowest ≡ remaining (now tails) (now left)) × (lowest < length (now tails)) ⌝ }
-    ensures { λ r. ⌜ Took (next nodes source sink (now (tails .entry)) (now (heads .entry)) (now (left .entry))) (now (walked .exit)) (r .kind) (r .amount) (r .from) (r .end) ⌝ }
-    ensures { λ _. ⌜ now (left .exit) ≡ without (next nodes source sink (now (tails .entry)) (now (heads .entry)) (now (left .entry))) (now (left .entry)) ⌝ }
-    ensures { λ _. ⌜ Ahead (now (tails .entry)) (now (left .exit)) (now (first .exit)) ⌝ }
+    ensures { λ r. ⌜ Took (next nodes source sink (before tails) (before heads) (before left)) (after walked) (r .kind) (r .amount) (r .from) (r .end) ⌝ }
+    ensures { λ _. ⌜ after left ≡ without (next nodes source sink (before tails) (before heads) (before left)) (before left) ⌝ }
+    ensures { λ _. ⌜ Ahead (before tails) (after left) (after first) ⌝ }
 {
     let start = start_at(source, tails, left, first, lowest);
     let trip = follow(nodes, sink, tails, heads, left, start, first, walked, turns);
@@ -264,8 +266,9 @@ fn take_next(
 // Stores a piece into the list where it has room: its kind, its amount, how many places, and these; returns where the next one goes.
 fn write_piece(list: &mut [u32], at: usize, kind: u32, amount: u32, places: &[u32]) -> usize
     requires { ⌜ (at < 2 ^ 32) × (length (now places) ≤ 512) ⌝ }
-    ensures { λ r. ⌜ r ≡ at + (3 + length (now (places .entry))) ⌝ }
-    ensures { λ _. ⌜ (at + (3 + length (now (places .entry))) ≤ length (now (list .entry)) → now (list .exit) ≡ sets (now (list .entry)) at (kind ∷ amount ∷ length (now (places .entry)) ∷ now (places .entry))) ⌝ }
+    ensures { λ r. ⌜ r ≡ at + (3 + length (before places)) ⌝ }
+    ensures { λ _. ⌜ (at + (3 + length (before places)) ≤ length (before list)
+        → after list ≡ sets (before list) at (kind ∷ amount ∷ length (before places) ∷ before places)) ⌝ }
 {
     let end = at + (3 + places.len());
     if list.len() < end {
@@ -293,7 +296,7 @@ fn write_list(
 ) -> usize
     requires { ⌜ Ready nodes (now tails) (now heads) (now left) (now first) ⌝ }
     requires { ⌜ (nodes ≤ length (now walked)) × (length (now walked) ≤ 512) × (nodes ≤ length (now turns)) × Node nodes source ⌝ }
-    ensures { λ r. ⌜ Stored (listOf nodes source sink (now (tails .entry)) (now (heads .entry)) (now (left .entry))) (now (list .entry)) (now (list .exit)) r ⌝ }
+    ensures { λ r. ⌜ Stored (listOf nodes source sink (before tails) (before heads) (before left)) (before list) (after list) r ⌝ }
 {
     let mut at = 0;
     let mut lowest = 0;
@@ -339,7 +342,7 @@ fn write_copy(
 ) -> usize
     requires { ⌜ Ready nodes (now tails) (now heads) (now flow) (now first) × (length (now flow) ≡ length (now left)) ⌝ }
     requires { ⌜ (nodes ≤ length (now walked)) × (length (now walked) ≤ 512) × (nodes ≤ length (now turns)) × Node nodes source ⌝ }
-    ensures { λ r. ⌜ Stored (listOf nodes source sink (now (tails .entry)) (now (heads .entry)) (now (flow .entry))) (now (list .entry)) (now (list .exit)) r ⌝ }
+    ensures { λ r. ⌜ Stored (listOf nodes source sink (before tails) (before heads) (before flow)) (before list) (after list) r ⌝ }
 {
     rows::store(left, 0, flow);
     write_list(
@@ -374,7 +377,8 @@ fn write_part(
     requires { ⌜ (length (now tails) ≤ length (now flow)) × (length (now tails) ≤ length (now left)) ⌝ }
     requires { ⌜ (nodes ≤ length (now first)) × Ahead (now tails) (take (length (now tails)) (now flow)) (now first) ⌝ }
     requires { ⌜ (nodes ≤ length (now walked)) × (length (now walked) ≤ 512) × (nodes ≤ length (now turns)) ⌝ }
-    ensures { λ r. ⌜ Stored (listOf nodes source sink (now (tails .entry)) (now (heads .entry)) (take (length (now (tails .entry))) (now (flow .entry)))) (now (list .entry)) (now (list .exit)) r ⌝ }
+    ensures { λ r. ⌜ (let numbers = listOf nodes source sink (before tails) (before heads) (take (length (before tails)) (before flow)) in
+        Stored numbers (before list) (after list) r) ⌝ }
 {
     let m = tails.len();
     write_copy(
@@ -403,7 +407,7 @@ pub fn list_flow(
     list: &mut [u32],
 ) -> usize
     requires { ⌜ ArcEnds n (now tails) (now heads) × Node n s × (length (now tails) ≤ length (now flow)) ⌝ }
-    ensures { λ r. ⌜ Stored (listOf n s t (now (tails .entry)) (now (heads .entry)) (take (length (now (tails .entry))) (now (flow .entry)))) (now (list .entry)) (now (list .exit)) r ⌝ }
+    ensures { λ r. ⌜ Stored (listOf n s t (before tails) (before heads) (take (length (before tails)) (before flow))) (before list) (after list) r ⌝ }
 {
     let mut left = [0u32; 4096];
     let mut first = [0u32; 512];

@@ -19,11 +19,12 @@ use Rattle.run.specs.Rows.{steps}
 use Rattle.run.specs.declared.Choice.the-variants.{Node}
 use Rattle.run.proofs.Networks.{FactsOf}
 use Rattle.run.proofs.Moments.{moment-facts}
+use Rattle.run.proofs.Answers.{run-value}
 use Rattle.until.specs.Stepwise.{stageAfter, afterSteps}
 use Rattle.until.specs.Stopping.{intoSink, stepsUntil, stopped}
 use Rattle.until.specs.Gain.{gain}
 use Rattle.until.proofs.Stepwise.{Stands, stands-after, stands-step, step-counted}
-use Rattle.until.proofs.Growing.{sink-positive, sinkIn, sinkOut, step-into-sink, into-sink-bound, run-value}
+use Rattle.until.proofs.Growing.{sink-positive, sinkIn, sinkOut, step-into-sink, into-sink-bound}
 use Rattle.until.proofs.Stopping.{until-on, stopped-whole, stopped-here, stopped-last}
 use Rattle.start.specs.Sums.{sumAt}
 use Rattle.work.specs.Held.{runIn, Between, Underway, RanUntil, Ran}

@@ -4,6 +4,7 @@ use mathlib.Core.Path.{_≡_}
 use mathlib.Core.List.{List}
 use lib.Dec.{eqb}
 use lib.ListN.{length}
+use Rattle.rows.specs.Lent.{Lent, before, after}
 use Rattle.rows.specs.Row.{Node, atNode}
 use Rattle.rows.specs.Sum.{only}
 use Rattle.table.specs.Table.{Table}
@@ -12,7 +13,7 @@ use Rattle.arcs.specs.Work.{excessPart, labelsPart, SameLists}
 use Rattle.run.specs.Start.{State}
 use Rattle.run.specs.Scale.{phaseCount, scale}
 use Rattle.run.specs.Relabel.{newLabel}
-use Rattle.run.specs.Phase.{Run, step, deltaAfter, after, run}
+use Rattle.run.specs.Phase.{Run, step, deltaAfter, after as afterPhases, run}
 use Rattle.run.specs.Rows.{stateOf, runOf, steps}
 use Rattle.run.specs.declared.Counts.{Counts}
 use Rattle.run.specs.declared.Outcome.{Outcome}
@@ -31,6 +32,22 @@ stateIn n flow work = stateOf flow (excessPart n work) (labelsPart n work)
 -- The run that they hold, with these counts.
 abbrev pub runIn : (n : ℕ) (flow work : List ℕ) → Counts → Run
 runIn n flow work counts = runOf (stateIn n flow work) counts
+
+-- The state that two lent rows held before the call,
+abbrev pub stateBefore : (n : ℕ) (flow work : Lent) → State
+stateBefore n flow work = stateIn n (before flow) (before work)
+
+-- and the one that they hold after it.
+abbrev pub stateAfter : (n : ℕ) (flow work : Lent) → State
+stateAfter n flow work = stateIn n (after flow) (after work)
+
+-- The run that two lent rows held before the call,
+abbrev pub runBefore : (n : ℕ) (flow work : Lent) → Counts → Run
+runBefore n flow work counts = runIn n (before flow) (before work) counts
+
+-- and the one that they hold after it.
+abbrev pub runAfter : (n : ℕ) (flow work : Lent) → Counts → Run
+runAfter n flow work counts = runIn n (after flow) (after work) counts
 
 -- What a relabel of node i is to do: its new label, and a position of its list before which no residual arc leads below that.
 pub record Relabels (t : Table) (st : State) (i : ℕ) (found : Lowest) : Type 0 where
@@ -68,7 +85,7 @@ pub record Between (t : Table) (delta : ℕ) (now : Run) : Type 0 where
   pub done : ℕ
   pub more : done < phaseCount t
   pub delta-is : delta ≡ deltaAfter t done
-  pub run-is : now ≡ after t done
+  pub run-is : now ≡ afterPhases t done
 
 -- The run that is to stop at q is under way: it took each step so far, and this is its net flow into the sink.
 pub record Underway (t : Table) (q : ℕ) (now : Run) (sink : ℕ) : Type 0 where

@@ -8,8 +8,9 @@ ghost use mathlib.Core.Path.{_≡_};
 ghost use mathlib.Core.Bool.{true};
 ghost use Prim.Native.Nat.{ℕ, _+_, _-_, _^_, _≤_, _<_};
 ghost use lib.ListN.{length, set, replicate};
+ghost use Rattle.rows.specs.Lent.{before, after};
 ghost use Rattle.rows.specs.Row.{Node, atNode};
-ghost use Rattle.table.specs.Table.{tableOf};
+ghost use Rattle.table.specs.Table.{lentTable, givenTable};
 ghost use Rattle.table.specs.Accepted.{Accepted, ArcRows};
 ghost use Rattle.arcs.specs.Residual.{list};
 ghost use Rattle.arcs.specs.Work.{startsAt, entriesAt, excessPart, labelsPart, lookedPart, listsPart, SameLists, InWork, workNeed};
@@ -23,7 +24,7 @@ ghost use Rattle.until.specs.Gain.{gain};
 ghost use Rattle.looking.specs.Looked.{Looked, ValidLabels};
 ghost use Rattle.tournament.specs.Tournament.{key, LowLabels, rekeyed, Tournament};
 ghost use Rattle.steps.specs.Rows.{touching, SpotIs};
-ghost use Rattle.work.specs.Held.{stateIn, runIn, Relabels, brought, Stepped, Ready, Between, Underway, RanUntil, Ran};
+ghost use Rattle.work.specs.Held.{stateIn, runIn, Relabels, brought, Stepped, Ready, Between, Underway, RanUntil, Ran, stateBefore, stateAfter, runBefore, runAfter};
 
 // What a step answers beside the rows: the counts, and the node beside the chosen one that it changed (after a relabel that is the chosen one again).
 struct Taken {
@@ -48,7 +49,7 @@ pub struct Stop {
 // The tournament of the keys of all nodes, whose excesses and labels the work row holds.
 fn build_keys(n: u32, work: &[u32], tree: &mut [u32], delta: u64)
     requires { ⌜ (n ≤ 512) × (startsAt n ≤ length (now work)) × LowLabels (labelsPart n (now work)) × (length (now tree) ≡ 1024) ⌝ }
-    ensures { λ _. ⌜ Tournament n (key delta (excessPart n (now (work .entry))) (labelsPart n (now (work .entry)))) (now (tree .exit)) ⌝ }
+    ensures { λ _. ⌜ Tournament n (key delta (excessPart n (before work)) (labelsPart n (before work))) (after tree) ⌝ }
 {
     let nodes = n as usize;
     let end = nodes + nodes;
@@ -58,7 +59,8 @@ fn build_keys(n: u32, work: &[u32], tree: &mut [u32], delta: u64)
 // Node i's key is brought up to date.
 fn refresh_key(n: u32, work: &[u32], tree: &mut [u32], delta: u64, i: u32)
     requires { ⌜ (n ≤ 512) × (startsAt n ≤ length (now work)) × LowLabels (labelsPart n (now work)) × (length (now tree) ≡ 1024) × Node n i ⌝ }
-    ensures { λ _. ⌜ ((keys : ℕ → ℕ) → Tournament n keys (now (tree .entry)) → Tournament n (rekeyed keys i (key delta (excessPart n (now (work .entry))) (labelsPart n (now (work .entry))) i)) (now (tree .exit))) ⌝ }
+    ensures { λ _. ⌜ ((keys : ℕ → ℕ) → Tournament n keys (before tree)
+        → Tournament n (rekeyed keys i (key delta (excessPart n (before work)) (labelsPart n (before work)) i)) (after tree)) ⌝ }
 {
     let nodes = n as usize;
     let end = nodes + nodes;
@@ -76,8 +78,11 @@ fn search_list(
     i: u32,
 ) -> Spot
     requires { ⌜ ArcRows n (now tails) (now heads) (now capacities) × WithinCapacities (now capacities) (now flow) × Node n i ⌝ }
-    requires { ⌜ ((s t : ℕ) × InWork (tableOf n s t (now tails) (now heads) (now capacities)) (now work) × Looked (tableOf n s t (now tails) (now heads) (now capacities)) (stateIn n (now flow) (now work)) (lookedPart n (now work))) ⌝ }
-    ensures { λ r. ⌜ ((s t : ℕ) → InWork (tableOf n s t (now (tails .entry)) (now (heads .entry)) (now (capacities .entry))) (now (work .entry)) → Looked (tableOf n s t (now (tails .entry)) (now (heads .entry)) (now (capacities .entry))) (stateIn n (now (flow .entry)) (now (work .entry))) (lookedPart n (now (work .entry))) → SpotIs (tableOf n s t (now (tails .entry)) (now (heads .entry)) (now (capacities .entry))) (stateIn n (now (flow .entry)) (now (work .entry))) i (list (tableOf n s t (now (tails .entry)) (now (heads .entry)) (now (capacities .entry))) i) r) ⌝ }
+    requires { ⌜ ((s t : ℕ) × InWork (givenTable n s t tails heads capacities) (now work)
+        × Looked (givenTable n s t tails heads capacities) (stateIn n (now flow) (now work)) (lookedPart n (now work))) ⌝ }
+    ensures { λ r. ⌜ ((s t : ℕ) → (let table = lentTable n s t tails heads capacities in
+        let state = stateBefore n flow work in
+        InWork table (before work) → Looked table state (lookedPart n (before work)) → SpotIs table state i (list table i) r)) ⌝ }
 {
     let nodes = n as usize;
     let at = nodes + nodes;
@@ -106,8 +111,9 @@ fn label_from_list(
     i: u32,
 ) -> Lowest
     requires { ⌜ ArcRows n (now tails) (now heads) (now capacities) × WithinCapacities (now capacities) (now flow) × Node n i ⌝ }
-    requires { ⌜ ((s t : ℕ) × InWork (tableOf n s t (now tails) (now heads) (now capacities)) (now work)) ⌝ }
-    ensures { λ r. ⌜ ((s t : ℕ) → InWork (tableOf n s t (now (tails .entry)) (now (heads .entry)) (now (capacities .entry))) (now (work .entry)) → Relabels (tableOf n s t (now (tails .entry)) (now (heads .entry)) (now (capacities .entry))) (stateIn n (now (flow .entry)) (now (work .entry))) i r) ⌝ }
+    requires { ⌜ ((s t : ℕ) × InWork (givenTable n s t tails heads capacities) (now work)) ⌝ }
+    ensures { λ r. ⌜ ((s t : ℕ) → (let table = lentTable n s t tails heads capacities in
+        InWork table (before work) → Relabels table (stateBefore n flow work) i r)) ⌝ }
 {
     let nodes = n as usize;
     let end = nodes + nodes;
@@ -137,10 +143,12 @@ fn push_from(
     k: u32,
 ) -> bool
     requires { ⌜ ArcRows n (now tails) (now heads) (now capacities) × (startsAt n ≤ length (now work)) ⌝ }
-    requires { ⌜ InPhase (tableOf n s t (now tails) (now heads) (now capacities)) delta (stateIn n (now flow) (now work)) × Node n i × (k < length (now capacities)) × (touching (now tails) (now heads) i k ≡ true) ⌝ }
-    ensures { λ r. ⌜ stateIn n (now (flow .exit)) (now (work .exit)) ≡ push (tableOf n s t (now (tails .entry)) (now (heads .entry)) (now (capacities .entry))) delta (stateIn n (now (flow .entry)) (now (work .entry))) i k ⌝ }
-    ensures { λ r. ⌜ r ≡ saturates (tableOf n s t (now (tails .entry)) (now (heads .entry)) (now (capacities .entry))) delta (stateIn n (now (flow .entry)) (now (work .entry))) i k ⌝ }
-    ensures { λ r. ⌜ listsPart n (now (work .exit)) ≡ listsPart n (now (work .entry)) ⌝ }
+    requires { ⌜ (let table = givenTable n s t tails heads capacities in
+        InPhase table delta (stateIn n (now flow) (now work)) × Node n i × (k < length (now capacities))
+        × (touching (now tails) (now heads) i k ≡ true)) ⌝ }
+    ensures { λ r. ⌜ stateAfter n flow work ≡ push (lentTable n s t tails heads capacities) delta (stateBefore n flow work) i k ⌝ }
+    ensures { λ r. ⌜ r ≡ saturates (lentTable n s t tails heads capacities) delta (stateBefore n flow work) i k ⌝ }
+    ensures { λ r. ⌜ listsPart n (after work) ≡ listsPart n (before work) ⌝ }
 {
     let nodes = n as usize;
     steps::push(
@@ -160,9 +168,9 @@ fn push_from(
 // Node i's label becomes this one, with the labels part lent.
 fn set_label(n: u32, work: &mut [u32], i: u32, label: u32)
     requires { ⌜ (startsAt n ≤ length (now work)) × Node n i ⌝ }
-    ensures { λ _. ⌜ excessPart n (now (work .exit)) ≡ excessPart n (now (work .entry)) ⌝ }
-    ensures { λ _. ⌜ labelsPart n (now (work .exit)) ≡ set (labelsPart n (now (work .entry))) (i - 1) label ⌝ }
-    ensures { λ _. ⌜ listsPart n (now (work .exit)) ≡ listsPart n (now (work .entry)) ⌝ }
+    ensures { λ _. ⌜ excessPart n (after work) ≡ excessPart n (before work) ⌝ }
+    ensures { λ _. ⌜ labelsPart n (after work) ≡ set (labelsPart n (before work)) (i - 1) label ⌝ }
+    ensures { λ _. ⌜ listsPart n (after work) ≡ listsPart n (before work) ⌝ }
 {
     let nodes = n as usize;
     let end = nodes + nodes;
@@ -172,10 +180,10 @@ fn set_label(n: u32, work: &mut [u32], i: u32, label: u32)
 // Node i's list was looked through to position `at`, with the second half of the starts part lent.
 fn set_looked(n: u32, work: &mut [u32], i: u32, at: u32)
     requires { ⌜ (n ≤ 512) × (entriesAt n ≤ length (now work)) × Node n i ⌝ }
-    ensures { λ _. ⌜ excessPart n (now (work .exit)) ≡ excessPart n (now (work .entry)) ⌝ }
-    ensures { λ _. ⌜ labelsPart n (now (work .exit)) ≡ labelsPart n (now (work .entry)) ⌝ }
-    ensures { λ _. ⌜ lookedPart n (now (work .exit)) ≡ set (lookedPart n (now (work .entry))) (i - 1) at ⌝ }
-    ensures { λ _. ⌜ SameLists n (now (work .entry)) (now (work .exit)) ⌝ }
+    ensures { λ _. ⌜ excessPart n (after work) ≡ excessPart n (before work) ⌝ }
+    ensures { λ _. ⌜ labelsPart n (after work) ≡ labelsPart n (before work) ⌝ }
+    ensures { λ _. ⌜ lookedPart n (after work) ≡ set (lookedPart n (before work)) (i - 1) at ⌝ }
+    ensures { λ _. ⌜ SameLists n (before work) (after work) ⌝ }
 {
     let nodes = n as usize;
     let begin = nodes + nodes;
@@ -187,10 +195,10 @@ fn set_looked(n: u32, work: &mut [u32], i: u32, at: u32)
 // No list was looked through yet.
 fn clear_looked(n: u32, work: &mut [u32])
     requires { ⌜ (n ≤ 512) × (entriesAt n ≤ length (now work)) ⌝ }
-    ensures { λ _. ⌜ excessPart n (now (work .exit)) ≡ excessPart n (now (work .entry)) ⌝ }
-    ensures { λ _. ⌜ labelsPart n (now (work .exit)) ≡ labelsPart n (now (work .entry)) ⌝ }
-    ensures { λ _. ⌜ lookedPart n (now (work .exit)) ≡ replicate n 0 ⌝ }
-    ensures { λ _. ⌜ SameLists n (now (work .entry)) (now (work .exit)) ⌝ }
+    ensures { λ _. ⌜ excessPart n (after work) ≡ excessPart n (before work) ⌝ }
+    ensures { λ _. ⌜ labelsPart n (after work) ≡ labelsPart n (before work) ⌝ }
+    ensures { λ _. ⌜ lookedPart n (after work) ≡ replicate n 0 ⌝ }
+    ensures { λ _. ⌜ SameLists n (before work) (after work) ⌝ }
 {
     let nodes = n as usize;
     let begin = nodes + nodes;
@@ -213,11 +221,14 @@ fn step(
     i: u32,
     counts: Counts,
 ) -> Taken
-    requires { ⌜ ArcRows n (now tails) (now heads) (now capacities) × InWork (tableOf n s t (now tails) (now heads) (now capacities)) (now work) ⌝ }
-    requires { ⌜ InPhase (tableOf n s t (now tails) (now heads) (now capacities)) delta (stateIn n (now flow) (now work)) × Node n i × (steps counts < 2 ^ 63) ⌝ }
-    requires { ⌜ ValidLabels (tableOf n s t (now tails) (now heads) (now capacities)) (stateIn n (now flow) (now work)) × Looked (tableOf n s t (now tails) (now heads) (now capacities)) (stateIn n (now flow) (now work)) (lookedPart n (now work)) ⌝ }
-    ensures { λ r. ⌜ Stepped (tableOf n s t (now (tails .entry)) (now (heads .entry)) (now (capacities .entry))) delta (runIn n (now (flow .entry)) (now (work .entry)) counts) i (runIn n (now (flow .exit)) (now (work .exit)) (r .counts)) (lookedPart n (now (work .exit))) (r .other) ⌝ }
-    ensures { λ r. ⌜ SameLists n (now (work .entry)) (now (work .exit)) ⌝ }
+    requires { ⌜ ArcRows n (now tails) (now heads) (now capacities) × InWork (givenTable n s t tails heads capacities) (now work) ⌝ }
+    requires { ⌜ InPhase (givenTable n s t tails heads capacities) delta (stateIn n (now flow) (now work)) × Node n i × (steps counts < 2 ^ 63) ⌝ }
+    requires { ⌜ (let table = givenTable n s t tails heads capacities in
+        let state = stateIn n (now flow) (now work) in
+        ValidLabels table state × Looked table state (lookedPart n (now work))) ⌝ }
+    ensures { λ r. ⌜ (let table = lentTable n s t tails heads capacities in
+        Stepped table delta (runBefore n flow work counts) i (runAfter n flow work (r .counts)) (lookedPart n (after work)) (r .other)) ⌝ }
+    ensures { λ r. ⌜ SameLists n (before work) (after work) ⌝ }
 {
     match search_list(n, tails, heads, capacities, flow, work, i) {
         Spot::At(p, k) => {
@@ -246,7 +257,7 @@ fn step(
 // Node i's excess.
 fn excess_at(n: u32, work: &[u32], i: u32) -> u32
     requires { ⌜ (n ≤ length (now work)) × Node n i ⌝ }
-    ensures { λ r. ⌜ r ≡ atNode (excessPart n (now (work .entry))) i ⌝ }
+    ensures { λ r. ⌜ r ≡ atNode (excessPart n (before work)) i ⌝ }
 {
     let nodes = n as usize;
     rows::at_node(&work[0..nodes], i)
@@ -278,13 +289,16 @@ fn turn(
     i: u32,
     tally: Tally,
 ) -> Tally
-    requires { ⌜ ArcRows n (now tails) (now heads) (now capacities) × InWork (tableOf n s t (now tails) (now heads) (now capacities)) (now work) ⌝ }
-    requires { ⌜ InPhase (tableOf n s t (now tails) (now heads) (now capacities)) delta (stateIn n (now flow) (now work)) × Node n i × (steps (tally .counts) < 2 ^ 63) × (tally .sink < 2 ^ 63) ⌝ }
-    requires { ⌜ ValidLabels (tableOf n s t (now tails) (now heads) (now capacities)) (stateIn n (now flow) (now work)) × Ready (tableOf n s t (now tails) (now heads) (now capacities)) delta (stateIn n (now flow) (now work)) (lookedPart n (now work)) (now tree) ⌝ }
-    ensures { λ r. ⌜ runIn n (now (flow .exit)) (now (work .exit)) (r .counts) ≡ step (tableOf n s t (now (tails .entry)) (now (heads .entry)) (now (capacities .entry))) delta (runIn n (now (flow .entry)) (now (work .entry)) (tally .counts)) i ⌝ }
-    ensures { λ r. ⌜ r .sink ≡ tally .sink + gain (tableOf n s t (now (tails .entry)) (now (heads .entry)) (now (capacities .entry))) delta (stateIn n (now (flow .entry)) (now (work .entry))) i ⌝ }
-    ensures { λ r. ⌜ Ready (tableOf n s t (now (tails .entry)) (now (heads .entry)) (now (capacities .entry))) delta (stateIn n (now (flow .exit)) (now (work .exit))) (lookedPart n (now (work .exit))) (now (tree .exit)) ⌝ }
-    ensures { λ r. ⌜ SameLists n (now (work .entry)) (now (work .exit)) ⌝ }
+    requires { ⌜ ArcRows n (now tails) (now heads) (now capacities) × InWork (givenTable n s t tails heads capacities) (now work) ⌝ }
+    requires { ⌜ (let table = givenTable n s t tails heads capacities in
+        InPhase table delta (stateIn n (now flow) (now work)) × Node n i × (steps (tally .counts) < 2 ^ 63) × (tally .sink < 2 ^ 63)) ⌝ }
+    requires { ⌜ (let table = givenTable n s t tails heads capacities in
+        let state = stateIn n (now flow) (now work) in
+        ValidLabels table state × Ready table delta state (lookedPart n (now work)) (now tree)) ⌝ }
+    ensures { λ r. ⌜ runAfter n flow work (r .counts) ≡ step (lentTable n s t tails heads capacities) delta (runBefore n flow work (tally .counts)) i ⌝ }
+    ensures { λ r. ⌜ r .sink ≡ tally .sink + gain (lentTable n s t tails heads capacities) delta (stateBefore n flow work) i ⌝ }
+    ensures { λ r. ⌜ Ready (lentTable n s t tails heads capacities) delta (stateAfter n flow work) (lookedPart n (after work)) (after tree) ⌝ }
+    ensures { λ r. ⌜ SameLists n (before work) (after work) ⌝ }
 {
     let before = tally.counts;
     let had = excess_at(n, work, i);
@@ -327,13 +341,17 @@ fn phase(
     tally: Tally,
     q: u64,
 ) -> Tally
-    requires { ⌜ Accepted (tableOf n s t (now tails) (now heads) (now capacities)) × InWork (tableOf n s t (now tails) (now heads) (now capacities)) (now work) ⌝ }
-    requires { ⌜ Between (tableOf n s t (now tails) (now heads) (now capacities)) delta (runIn n (now flow) (now work) (tally .counts)) × Underway (tableOf n s t (now tails) (now heads) (now capacities)) q (runIn n (now flow) (now work) (tally .counts)) (tally .sink) ⌝ }
-    requires { ⌜ Looked (tableOf n s t (now tails) (now heads) (now capacities)) (stateIn n (now flow) (now work)) (lookedPart n (now work)) × (length (now tree) ≡ 1024) ⌝ }
-    ensures { λ r. ⌜ Underway (tableOf n s t (now (tails .entry)) (now (heads .entry)) (now (capacities .entry))) q (runIn n (now (flow .exit)) (now (work .exit)) (r .counts)) (r .sink) ⌝ }
-    ensures { λ r. ⌜ (r .sink < q → runIn n (now (flow .exit)) (now (work .exit)) (r .counts) ≡ phase (tableOf n s t (now (tails .entry)) (now (heads .entry)) (now (capacities .entry))) delta (runIn n (now (flow .entry)) (now (work .entry)) (tally .counts))) ⌝ }
-    ensures { λ r. ⌜ Looked (tableOf n s t (now (tails .entry)) (now (heads .entry)) (now (capacities .entry))) (stateIn n (now (flow .exit)) (now (work .exit))) (lookedPart n (now (work .exit))) ⌝ }
-    ensures { λ r. ⌜ SameLists n (now (work .entry)) (now (work .exit)) ⌝ }
+    requires { ⌜ (let table = givenTable n s t tails heads capacities in Accepted table × InWork table (now work)) ⌝ }
+    requires { ⌜ (let table = givenTable n s t tails heads capacities in
+        let run = runIn n (now flow) (now work) (tally .counts) in
+        Between table delta run × Underway table q run (tally .sink)) ⌝ }
+    requires { ⌜ (let table = givenTable n s t tails heads capacities in
+        Looked table (stateIn n (now flow) (now work)) (lookedPart n (now work)) × (length (now tree) ≡ 1024)) ⌝ }
+    ensures { λ r. ⌜ Underway (lentTable n s t tails heads capacities) q (runAfter n flow work (r .counts)) (r .sink) ⌝ }
+    ensures { λ r. ⌜ (let table = lentTable n s t tails heads capacities in
+        r .sink < q → runAfter n flow work (r .counts) ≡ phase table delta (runBefore n flow work (tally .counts))) ⌝ }
+    ensures { λ r. ⌜ Looked (lentTable n s t tails heads capacities) (stateAfter n flow work) (lookedPart n (after work)) ⌝ }
+    ensures { λ r. ⌜ SameLists n (before work) (after work) ⌝ }
 {
     build_keys(n, work, tree, delta);
     let mut taken = tally;
@@ -377,12 +395,14 @@ fn phases(
     sink: u64,
     q: u64,
 ) -> Tally
-    requires { ⌜ Accepted (tableOf n s t (now tails) (now heads) (now capacities)) × InWork (tableOf n s t (now tails) (now heads) (now capacities)) (now work) ⌝ }
-    requires { ⌜ (stateIn n (now flow) (now work) ≡ start (tableOf n s t (now tails) (now heads) (now capacities))) × (count ≡ phaseCount (tableOf n s t (now tails) (now heads) (now capacities))) × (sink ≡ intoSink (tableOf n s t (now tails) (now heads) (now capacities)) (start (tableOf n s t (now tails) (now heads) (now capacities)) .flow)) ⌝ }
-    requires { ⌜ Looked (tableOf n s t (now tails) (now heads) (now capacities)) (stateIn n (now flow) (now work)) (lookedPart n (now work)) × (length (now tree) ≡ 1024) ⌝ }
-    ensures { λ r. ⌜ runIn n (now (flow .exit)) (now (work .exit)) (r .counts) ≡ stopped (tableOf n s t (now (tails .entry)) (now (heads .entry)) (now (capacities .entry))) q ⌝ }
-    ensures { λ r. ⌜ r .sink ≡ intoSink (tableOf n s t (now (tails .entry)) (now (heads .entry)) (now (capacities .entry))) (stopped (tableOf n s t (now (tails .entry)) (now (heads .entry)) (now (capacities .entry))) q .state .flow) ⌝ }
-    ensures { λ r. ⌜ SameLists n (now (work .entry)) (now (work .exit)) ⌝ }
+    requires { ⌜ (let table = givenTable n s t tails heads capacities in Accepted table × InWork table (now work)) ⌝ }
+    requires { ⌜ (let table = givenTable n s t tails heads capacities in
+        (stateIn n (now flow) (now work) ≡ start table) × (count ≡ phaseCount table) × (sink ≡ intoSink table (start table .flow))) ⌝ }
+    requires { ⌜ (let table = givenTable n s t tails heads capacities in
+        Looked table (stateIn n (now flow) (now work)) (lookedPart n (now work)) × (length (now tree) ≡ 1024)) ⌝ }
+    ensures { λ r. ⌜ runAfter n flow work (r .counts) ≡ stopped (lentTable n s t tails heads capacities) q ⌝ }
+    ensures { λ r. ⌜ (let table = lentTable n s t tails heads capacities in r .sink ≡ intoSink table (stopped table q .state .flow)) ⌝ }
+    ensures { λ r. ⌜ SameLists n (before work) (after work) ⌝ }
 {
     let none = Counts {
         saturating: 0,
@@ -432,8 +452,8 @@ fn begin(
 )
     requires { ⌜ ArcRows n (now tails) (now heads) (now capacities) ⌝ }
     requires { ⌜ (startsAt n ≤ length (now work)) × (length (now flow) ≡ length (now capacities)) ⌝ }
-    ensures { λ _. ⌜ stateIn n (now (flow .exit)) (now (work .exit)) ≡ start (tableOf n s t (now (tails .entry)) (now (heads .entry)) (now (capacities .entry))) ⌝ }
-    ensures { λ _. ⌜ listsPart n (now (work .exit)) ≡ listsPart n (now (work .entry)) ⌝ }
+    ensures { λ _. ⌜ stateAfter n flow work ≡ start (lentTable n s t tails heads capacities) ⌝ }
+    ensures { λ _. ⌜ listsPart n (after work) ≡ listsPart n (before work) ⌝ }
 {
     let nodes = n as usize;
     let end = nodes + nodes;
@@ -445,7 +465,7 @@ fn begin(
 // K: the number of phases for the excesses that the work row holds after the start.
 fn count_phases(n: u32, work: &[u32]) -> u32
     requires { ⌜ startsAt n ≤ length (now work) ⌝ }
-    ensures { λ r. ⌜ (r ≡ phasesFor (largest (excessPart n (now (work .entry))))) × (r ≤ 33) ⌝ }
+    ensures { λ r. ⌜ (r ≡ phasesFor (largest (excessPart n (before work)))) × (r ≤ 33) ⌝ }
 {
     let nodes = n as usize;
     start::phase_count(start::largest(&work[0..nodes]))
@@ -471,8 +491,9 @@ pub fn run_until(
     flow: &mut [u32],
     work: &mut [u32],
 ) -> Stop
-    requires { ⌜ Accepted (tableOf n s t (now tails) (now heads) (now capacities)) × InWork (tableOf n s t (now tails) (now heads) (now capacities)) (now work) × (length (now flow) ≡ length (now capacities)) ⌝ }
-    ensures { λ r. ⌜ RanUntil (tableOf n s t (now (tails .entry)) (now (heads .entry)) (now (capacities .entry))) q (now (work .entry)) r (now (flow .exit)) (now (work .exit)) ⌝ }
+    requires { ⌜ (let table = givenTable n s t tails heads capacities in
+        Accepted table × InWork table (now work) × (length (now flow) ≡ length (now capacities))) ⌝ }
+    ensures { λ r. ⌜ RanUntil (lentTable n s t tails heads capacities) q (before work) r (after flow) (after work) ⌝ }
 {
     begin(n, s, t, tails, heads, capacities, flow, work);
     clear_looked(n, work);
@@ -514,8 +535,9 @@ pub fn run(
     flow: &mut [u32],
     work: &mut [u32],
 ) -> Outcome
-    requires { ⌜ Accepted (tableOf n s t (now tails) (now heads) (now capacities)) × InWork (tableOf n s t (now tails) (now heads) (now capacities)) (now work) × (length (now flow) ≡ length (now capacities)) ⌝ }
-    ensures { λ r. ⌜ Ran (tableOf n s t (now (tails .entry)) (now (heads .entry)) (now (capacities .entry))) (now (work .entry)) r (now (flow .exit)) (now (work .exit)) ⌝ }
+    requires { ⌜ (let table = givenTable n s t tails heads capacities in
+        Accepted table × InWork table (now work) × (length (now flow) ≡ length (now capacities))) ⌝ }
+    ensures { λ r. ⌜ Ran (lentTable n s t tails heads capacities) (before work) r (after flow) (after work) ⌝ }
 {
     let stop = run_until(n, s, t, tails, heads, capacities, 4096000001, flow, work);
     let counts = stop.counts;

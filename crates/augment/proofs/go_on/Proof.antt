@@ -1,4 +1,4 @@
--- `go_on` meets its contract: two arrays of its own are lent on.
+-- `go_on` meets its contract: four arrays of its own are lent on.
 use mathlib.Core.Path.{sym}
 use lib.ListN.{replicate}
 use lib.Seq.{length-take-le}
@@ -12,14 +12,26 @@ array-borrow-prefix-dist c = search needs
 slice-aggregate-go-on-with : tie.Need-slice-aggregate-go-on-with
 slice-aggregate-go-on-with c = sym (length-take-le _ (replicate 514 0) (c .before .before .before .before .before .before .before .before .pre .0 .rows .arcs .ends .few-nodes))
 
+array-borrow-prefix-lowest : tie.Need-array-borrow-prefix-lowest
+array-borrow-prefix-lowest c = search needs
+
 slice-aggregate-go-on-with-2 : tie.Need-slice-aggregate-go-on-with-2
-slice-aggregate-go-on-with-2 c = search needs
+slice-aggregate-go-on-with-2 c = sym (length-take-le _ (replicate 514 0) (c .before .before .before .before .before .before .before .before .before .pre .0 .rows .arcs .ends .few-nodes))
+
+array-borrow-prefix-far : tie.Need-array-borrow-prefix-far
+array-borrow-prefix-far c = search needs
+
+slice-aggregate-go-on-with-3 : tie.Need-slice-aggregate-go-on-with-3
+slice-aggregate-go-on-with-3 c = sym (length-take-le _ (replicate 514 0) (c .before .before .before .before .before .before .before .before .before .before .pre .0 .rows .arcs .ends .few-nodes))
+
+slice-aggregate-go-on-with-4 : tie.Need-slice-aggregate-go-on-with-4
+slice-aggregate-go-on-with-4 c = search needs
 
 go-on-with-requires : tie.Need-go-on-with-requires
 go-on-with-requires c κs =
-    let start = c .before .before .before .before .before .before .before .before .before in
+    let start = c .before .before .before .before .before .before .before .before .before .before .before in
     let few = start .pre .0 .rows .arcs .ends .few-nodes in
-    (start .pre .0, (start .pre .1, (length-take-le _ (replicate 514 0) few, few)))
+    (start .pre .0, (start .pre .1, (length-take-le _ (replicate 514 0) few, length-take-le _ (replicate 514 0) few, length-take-le _ (replicate 514 0) few, few)))
 
 same-length : tie.Need-same-length
 same-length c = search needs
@@ -33,7 +45,11 @@ go-on-spec =
     (tie.spec
     array-borrow-prefix-dist
     slice-aggregate-go-on-with
+    array-borrow-prefix-lowest
     slice-aggregate-go-on-with-2
+    array-borrow-prefix-far
+    slice-aggregate-go-on-with-3
+    slice-aggregate-go-on-with-4
     go-on-with-requires
     same-length
     returns)

@@ -4,8 +4,8 @@ use mathlib.Core.Path.{sym}
 use native.Mathlib.Omega.{arith}
 use lib.ListN.{length, replicate}
 use lib.Seq.{length-take-le}
-use Rattle.bounded.specs.Joining.{joinedArcs}
-use Rattle.bounded.proofs.Networks.{own-rows}
+use Rattle.joining.specs.Joining.{joinedArcs}
+use Rattle.bounded.proofs.Rows.{own-rows}
 use borrow.Author.Needs.{needs}
 use Rattle.bounded.proofs.solve_bounded.Statement.{statement}
 use Rattle.bounded.proofs.solve_bounded.Tie as tie

@@ -4,7 +4,7 @@ use native.Mathlib.Omega.{arith}
 use borrow.Author.Tests.{not-true, not-false}
 use lib.Seq.{length-take-le}
 use Rattle.bounded.specs.Bounded.{GreatestBounded}
-use Rattle.bounded.proofs.Networks.{room-for, above-is, first-rows}
+use Rattle.bounded.proofs.Rows.{room-for, above-is, first-rows}
 use Rattle.bounded.proofs.Signed.{read-value}
 use borrow.Author.Needs.{needs}
 use Rattle.bounded.proofs.solve_in.Statement.{statement}
@@ -71,13 +71,13 @@ slice-reshare-prefix-greatest : tie.Need-slice-reshare-prefix-greatest
 slice-reshare-prefix-greatest c =
     let joined = c .before .before .before .before .before .before .before .before .before .before .before .before .before .before .before .before .before .before .before in
     let start = from-joined joined in
-    room-for (start .pre .0 .accepted) (joined .join .ensures .0) (start .pre .1 .1 .none-empty)
+    room-for (joined .join .ensures .0)
 
 slice-aggregate-greatest : tie.Need-slice-aggregate-greatest
 slice-aggregate-greatest c =
     let joined = c .before .before .before .before .before .before .before .before .before .before .before .before .before .before .before .before .before .before .before .before in
     let start = from-joined joined in
-    sym (length-take-le _ _ (room-for (start .pre .0 .accepted) (joined .join .ensures .0) (start .pre .1 .1 .none-empty)))
+    sym (length-take-le _ _ (room-for (joined .join .ensures .0)))
 
 greatest-requires : tie.Need-greatest-requires
 greatest-requires c κs =
@@ -87,7 +87,7 @@ greatest-requires c κs =
     let own = start .pre .1 .1 in (
       start .pre .0,
       (
-        above-is (start .pre .0 .accepted) (joined .join .ensures .0) (own .none-empty)
+        above-is (joined .join .ensures .0)
             (tested .feasible .kept .1 .1 .1 .1 .1 .1 .1 .1 .1 .1 .1 .0 ∙ joined .join .kept .1 .1 .1 .1 .1 .1 .1 .1 .1 .1 .1 .1 .0 ∙ own .more-long)
             (tested .feasible .ensures .keeps (not-false _ (c .before .before .before .before .before .if1 .left))),
         omega (arith, own .lists-long, tested .feasible .kept .1 .1 .1 .1 .1 .1 .1 .1 .1 .1 .1 .1 .0),

@@ -34,11 +34,11 @@ returns c =
     let none : atPlace (args .capacities .now) (args .k) ≤ 0 = omega (arith, c .if1 .taken) in
     rw (le-ltb 0 (atPlace (args .capacities .now) (args .k)) none)
 
-mul-both-mark : tie.Need-mul-both-mark
-mul-both-mark c = search needs
+mul-tail : tie.Need-mul-tail
+mul-tail c = search needs
 
-shared-slice-read-both-mark : tie.Need-shared-slice-read-both-mark
-shared-slice-read-both-mark c = search needs
+shared-slice-read-tail : tie.Need-shared-slice-read-tail
+shared-slice-read-tail c = search needs
 
 both-mark-requires : tie.Need-both-mark-requires
 both-mark-requires c κs = ends (c .before .before .before .before .before .before .before .before) .0
@@ -49,11 +49,11 @@ returns-2 c =
     let first = marked .before .before in
     rw (some first, sym (marked .both-mark .ensures) ∙ not-true _ (c .if2 .taken))
 
-mul-both-mark-2 : tie.Need-mul-both-mark-2
-mul-both-mark-2 c = search needs
+mul-head : tie.Need-mul-head
+mul-head c = search needs
 
-shared-slice-read-both-mark-2 : tie.Need-shared-slice-read-both-mark-2
-shared-slice-read-both-mark-2 c = let start = c .before .before .before .before .before .before .before .before .before .before .before in omega (arith, start .pre .0 .heads-long, start .pre .3)
+shared-slice-read-head : tie.Need-shared-slice-read-head
+shared-slice-read-head c = let start = c .before .before .before .before .before .before .before .before .before .before .before in omega (arith, start .pre .0 .heads-long, start .pre .3)
 
 both-mark-requires-2 : tie.Need-both-mark-requires-2
 both-mark-requires-2 c κs = ends (c .before .before .before .before .before .before .before .before .before .before .before) .1
@@ -72,11 +72,11 @@ keeps-arc-spec =
     mul-if1
     shared-slice-read-if1
     returns
-    mul-both-mark
-    shared-slice-read-both-mark
+    mul-tail
+    shared-slice-read-tail
     both-mark-requires
     returns-2
-    mul-both-mark-2
-    shared-slice-read-both-mark-2
+    mul-head
+    shared-slice-read-head
     both-mark-requires-2
     returns-3)

@@ -31,20 +31,20 @@ loop-holds : tie.Need-loop-holds Inv-loop μ-loop
 unfolding passing
 loop-holds c = (omega arith, refl)
 
-mul-helps : tie.Need-mul-helps Inv-loop μ-loop
-mul-helps c = search needs
+mul-both-mark : tie.Need-mul-both-mark Inv-loop μ-loop
+mul-both-mark c = search needs
 
-shared-slice-read-helps : tie.Need-shared-slice-read-helps Inv-loop μ-loop
-shared-slice-read-helps c = search needs
+shared-slice-read-both-mark : tie.Need-shared-slice-read-both-mark Inv-loop μ-loop
+shared-slice-read-both-mark c = search needs
 
-mul-helps-2 : tie.Need-mul-helps-2 Inv-loop μ-loop
-mul-helps-2 c = search needs
+mul-both-mark-2 : tie.Need-mul-both-mark-2 Inv-loop μ-loop
+mul-both-mark-2 c = search needs
 
-shared-slice-read-helps-2 : tie.Need-shared-slice-read-helps-2 Inv-loop μ-loop
-shared-slice-read-helps-2 c = omega (arith, entry (c .before .before .before) .pre .0 .heads-long, c .before .before .loop-test .taken)
+shared-slice-read-both-mark-2 : tie.Need-shared-slice-read-both-mark-2 Inv-loop μ-loop
+shared-slice-read-both-mark-2 c = omega (arith, entry (c .before .before .before) .pre .0 .heads-long, c .before .before .loop-test .taken)
 
-helps-requires : tie.Need-helps-requires Inv-loop μ-loop
-helps-requires c κs =
+both-mark-requires : tie.Need-both-mark-requires Inv-loop μ-loop
+both-mark-requires c κs =
     let in-loop = c .before .before in
     let at = in-loop .before in
     let ends = entry at .pre .0 in
@@ -69,8 +69,8 @@ loop-again c =
     let on : k + 1 ≡ suc k = omega arith in (
       omega (arith, called .before .before .before .loop-test .taken),
       ⊎-elim
-          (λ w. counted-yes (test at) k _ _ _ on (sym (called .helps .ensures) ∙ w .0 .taken) (at .loop .inv .1) (w .1))
-          (λ w. counted-no (test at) k _ _ _ on (sym (called .helps .ensures) ∙ w .0 .left) (at .loop .inv .1) (w .1))
+          (λ w. counted-yes (test at) k _ _ _ on (sym (called .both-mark .ensures) ∙ w .0 .taken) (at .loop .inv .1) (w .1))
+          (λ w. counted-no (test at) k _ _ _ on (sym (called .both-mark .ensures) ∙ w .0 .left) (at .loop .inv .1) (w .1))
           (c .if1 .came),
     )
 
@@ -87,11 +87,11 @@ count-places-spec =
     Inv-loop
     μ-loop
     loop-holds
-    mul-helps
-    shared-slice-read-helps
-    mul-helps-2
-    shared-slice-read-helps-2
-    helps-requires
+    mul-both-mark
+    shared-slice-read-both-mark
+    mul-both-mark-2
+    shared-slice-read-both-mark-2
+    both-mark-requires
     add-count
     add-k
     loop-less

@@ -31,7 +31,7 @@ test c = let args = entry c .args in helpsFrom (args .side .now) (args .drains .
 room : (c : tie.Then1 Inv-loop μ-loop) → let at = c .before .before .before .before .before in at .loop .count < length (at .loop .list)
 room c =
     let at = c .before .before .before .before .before in
-    gathered-room (test at) (at .loop .k) (length (entry at .args .tails .now)) _ _ _ (at .loop .inv .1) (sym (c .before .helps .ensures) ∙ c .if1 .taken) (c .before .before .before .before .loop-test .taken) (entry at .pre .1)
+    gathered-room (test at) (at .loop .k) (length (entry at .args .tails .now)) _ _ _ (at .loop .inv .1) (sym (c .before .both-mark .ensures) ∙ c .if1 .taken) (c .before .before .before .before .loop-test .taken) (entry at .pre .1)
 
 -- The count is small.
 small : (c : tie.At-loop Inv-loop μ-loop) → c .loop .count ≤ 4096
@@ -41,20 +41,20 @@ loop-holds : tie.Need-loop-holds Inv-loop μ-loop
 unfolding passing
 loop-holds c = (omega arith, gathered-none _ 0 _ refl)
 
-mul-helps : tie.Need-mul-helps Inv-loop μ-loop
-mul-helps c = search needs
+mul-both-mark : tie.Need-mul-both-mark Inv-loop μ-loop
+mul-both-mark c = search needs
 
-shared-slice-read-helps : tie.Need-shared-slice-read-helps Inv-loop μ-loop
-shared-slice-read-helps c = search needs
+shared-slice-read-both-mark : tie.Need-shared-slice-read-both-mark Inv-loop μ-loop
+shared-slice-read-both-mark c = search needs
 
-mul-helps-2 : tie.Need-mul-helps-2 Inv-loop μ-loop
-mul-helps-2 c = search needs
+mul-both-mark-2 : tie.Need-mul-both-mark-2 Inv-loop μ-loop
+mul-both-mark-2 c = search needs
 
-shared-slice-read-helps-2 : tie.Need-shared-slice-read-helps-2 Inv-loop μ-loop
-shared-slice-read-helps-2 c = omega (arith, entry (c .before .before .before) .pre .0 .0 .heads-long, c .before .before .loop-test .taken)
+shared-slice-read-both-mark-2 : tie.Need-shared-slice-read-both-mark-2 Inv-loop μ-loop
+shared-slice-read-both-mark-2 c = omega (arith, entry (c .before .before .before) .pre .0 .0 .heads-long, c .before .before .loop-test .taken)
 
-helps-requires : tie.Need-helps-requires Inv-loop μ-loop
-helps-requires c κs =
+both-mark-requires : tie.Need-both-mark-requires Inv-loop μ-loop
+both-mark-requires c κs =
     let in-loop = c .before .before in
     let at = in-loop .before in
     let ends = entry at .pre .0 .0 in
@@ -89,8 +89,8 @@ loop-again c =
     let on : k + 1 ≡ suc k = omega arith in (
       omega (arith, called .before .before .before .loop-test .taken),
       ⊎-elim
-          (λ w. gathered-yes (test at) k _ _ _ k _ _ _ on (at .loop .inv .1) (sym (called .helps .ensures) ∙ w .0 .taken) (room (record { before = called; if1 = w .0 })) refl (w .1) (w .2))
-          (λ w. gathered-no (test at) k _ _ _ _ _ _ on (at .loop .inv .1) (sym (called .helps .ensures) ∙ w .0 .left) (w .1) (w .2))
+          (λ w. gathered-yes (test at) k _ _ _ k _ _ _ on (at .loop .inv .1) (sym (called .both-mark .ensures) ∙ w .0 .taken) (room (record { before = called; if1 = w .0 })) refl (w .1) (w .2))
+          (λ w. gathered-no (test at) k _ _ _ _ _ _ on (at .loop .inv .1) (sym (called .both-mark .ensures) ∙ w .0 .left) (w .1) (w .2))
           (c .if1 .came),
     )
 
@@ -110,11 +110,11 @@ list-places-spec =
     Inv-loop
     μ-loop
     loop-holds
-    mul-helps
-    shared-slice-read-helps
-    mul-helps-2
-    shared-slice-read-helps-2
-    helps-requires
+    mul-both-mark
+    shared-slice-read-both-mark
+    mul-both-mark-2
+    shared-slice-read-both-mark-2
+    both-mark-requires
     cast-list
     cast-list-2
     mul-list

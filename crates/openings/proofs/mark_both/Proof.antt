@@ -7,7 +7,8 @@ use Rattle.table.specs.Table.{Table, tableOf}
 use Rattle.arcs.specs.Work.{InWork}
 use Rattle.arcs.proofs.Ends.{ends-wide}
 use Rattle.arcs.proofs.Work.{in-work-kept, in-work-turned}
-use Rattle.openings.proofs.Sides.{rows-turned, filled-sides}
+use Rattle.reach.proofs.Turning.{rows-turned}
+use Rattle.openings.proofs.Sides.{filled-sides}
 use borrow.Author.Needs.{needs}
 use Rattle.openings.proofs.mark_both.Statement.{statement}
 use Rattle.openings.proofs.mark_both.Tie as tie

@@ -4,7 +4,7 @@ use mathlib.Core.Path.{sym, subst}
 use Rattle.table.specs.Table.{tableOf}
 use Rattle.solver.specs.Solving.{Left}
 use Rattle.minimums.specs.BoundedTable.{boundedOf}
-use Rattle.bounded.proofs.Largest.{table-accepted}
+use Rattle.feasible.proofs.Accepting.{table-accepted}
 use Rattle.planner.proofs.Answers.{solved-value, fine-plain, fine-bounded, signed-same}
 use borrow.Author.Needs.{needs}
 use Rattle.planner.proofs.solve_accepted.Statement.{statement}

@@ -5,8 +5,8 @@ use native.Mathlib.Omega.{arith}
 use lib.ListN.{replicate, length-replicate}
 use Rattle.solver.specs.Solving.{Left}
 use Rattle.minimums.specs.BoundedTable.{boundedOf}
-use Rattle.bounded.specs.Solving.{First}
-use Rattle.bounded.proofs.Largest.{table-accepted}
+use Rattle.feasible.specs.Deciding.{First}
+use Rattle.feasible.proofs.Accepting.{table-accepted}
 use Rattle.planner.proofs.Firsts.{solved-first}
 use borrow.Author.Needs.{needs}
 use Rattle.planner.proofs.solve_some.Statement.{statement}

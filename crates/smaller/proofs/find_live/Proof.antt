@@ -5,7 +5,8 @@ use Rattle.table.specs.Table.{Table, tableOf}
 use Rattle.arcs.specs.Work.{InWork}
 use Rattle.arcs.proofs.Ends.{ends-wide}
 use Rattle.arcs.proofs.Work.{in-work-turned}
-use Rattle.smaller.proofs.Living.{rows-turned, live-ahead, live-behind}
+use Rattle.reach.proofs.Turning.{rows-turned}
+use Rattle.smaller.proofs.Living.{live-ahead, live-behind}
 use borrow.Author.Needs.{needs}
 use Rattle.smaller.proofs.find_live.Statement.{statement}
 use Rattle.smaller.proofs.find_live.Tie as tie

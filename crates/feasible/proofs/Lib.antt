@@ -1,0 +1,4 @@
+pub mod Accepting
+pub mod Filling
+pub mod Places
+pub mod Networks

@@ -1,0 +1,4 @@
+pub mod Flows
+pub mod Filling
+pub mod Deciding
+pub mod Examples

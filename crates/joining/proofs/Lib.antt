@@ -1,0 +1,4 @@
+pub mod Blocks
+pub mod Sums
+pub mod Adding
+pub mod Writing
