@@ -16,7 +16,8 @@ use Rattle.rows.specs.Row.{atPlace, atNode, Node}
 use Rattle.network.specs.Network.{Network, Flow, residualOver}
 use Rattle.reach.proofs.Visiting.{left-test}
 use Rattle.shortest.specs.Ways.{Ways, Leads, otherEnd}
-use Rattle.shortest.specs.Distance.{Labels, leadsBy, leadsTo, lowest, next, chainFrom, arrives, distances}
+use Rattle.shortest.specs.Distance.{leadsBy, leadsTo, lowest, next, chainFrom, distances}
+use Rattle.shortest.specs.Labels.{Labels, arrives}
 use Rattle.shortest.specs.Augment.{waysIn, wayFrom, residualFrom, farFrom, leastWith, leastResidual}
 use Rattle.shortest.specs.Rows.{rowWays, Rows}
 use Rattle.shortest.proofs.Ends.{Ends, leads-within}

@@ -7,7 +7,8 @@ use lib.ListN.{take}
 use Rattle.rows.specs.Row.{atNode, Node}
 use Rattle.network.specs.Network.{Network}
 use Rattle.shortest.specs.Ways.{Ways, otherEnd}
-use Rattle.shortest.specs.Distance.{Labels, NoneLower, chainFrom, arrives}
+use Rattle.shortest.specs.Distance.{chainFrom}
+use Rattle.shortest.specs.Labels.{Labels, NoneLower, arrives}
 use Rattle.shortest.specs.Augment.{waysIn, leastResidual, reaches, chainIn}
 
 -- What is noted for the nodes: for each a place below which none leads one nearer, with its far end beside it; or no place.

@@ -5,7 +5,7 @@ use mathlib.Core.Bool.{cond}
 use mathlib.Core.List.{List, _++_}
 use lib.Dec.{ltb}
 use lib.ListN.{length, take, drop}
-use Rattle.rows.specs.Lent.{Lent, after}
+use Rattle.rows.specs.Lent.{LentRow, after}
 use Rattle.rows.specs.Row.{cleared}
 use Rattle.table.specs.Table.{Table, arcs, networkOf}
 use Rattle.table.specs.Checks.{refuseIf, orElse}
@@ -37,7 +37,7 @@ abbrev pub shownBy : Listed → (flow side work list : List ℕ) → Shown
 shownBy r flow side work list = shown (left (r .answer) flow side work) (r .filled) list
 
 -- The same, from what was returned and what the four lent rows hold after the call.
-abbrev pub shownIn : Listed → (flow side work list : Lent) → Shown
+abbrev pub shownIn : Listed → (flow side work list : LentRow) → Shown
 shownIn r flow side work list = shownBy r (after flow) (after side) (after work) (after list)
 
 -- The list of a table: the numbers of the chains and rings of the flow that its run ends with.

@@ -3,7 +3,7 @@ use Prim.Native.Nat.{ℕ, zero, suc, _+_, _*_}
 use mathlib.Core.List.{List, [], _∷_}
 use lib.ListN.{length, getD}
 use denote.Ref.{now}
-use Rattle.rows.specs.Lent.{Lent, Given, before}
+use Rattle.rows.specs.Lent.{LentRow, GivenRow, before}
 use Rattle.rows.specs.Row.{atPlace, part}
 use Rattle.parts.specs.Placed.{placed}
 use Rattle.minimums.specs.BoundedTable.{BoundedTable, boundedOf}
@@ -41,12 +41,12 @@ daysOf starts nodes sources sinks stamps tails heads capacities minimums =
     }
 
 -- The days in nine rows that a call is given.
-abbrev pub givenDays : (starts nodes sources sinks stamps tails heads capacities minimums : Given) → Days
+abbrev pub givenDays : (starts nodes sources sinks stamps tails heads capacities minimums : GivenRow) → Days
 givenDays starts nodes sources sinks stamps tails heads capacities minimums =
     daysOf (now starts) (now nodes) (now sources) (now sinks) (now stamps) (now tails) (now heads) (now capacities) (now minimums)
 
 -- The days in nine lent rows, as they were before the call.
-abbrev pub lentDays : (starts nodes sources sinks stamps tails heads capacities minimums : Lent) → Days
+abbrev pub lentDays : (starts nodes sources sinks stamps tails heads capacities minimums : LentRow) → Days
 lentDays starts nodes sources sinks stamps tails heads capacities minimums =
     daysOf (before starts) (before nodes) (before sources) (before sinks) (before stamps) (before tails) (before heads) (before capacities) (before minimums)
 

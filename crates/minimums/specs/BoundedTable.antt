@@ -4,7 +4,7 @@ use mathlib.Core.Path.{_≡_}
 use mathlib.Core.List.{List, map}
 use lib.ListN.{length}
 use denote.Ref.{now}
-use Rattle.rows.specs.Lent.{Lent, Given, before}
+use Rattle.rows.specs.Lent.{LentRow, GivenRow, before}
 use Rattle.rows.specs.Row.{Node, atPlace}
 use Rattle.table.specs.Table.{Table, tableOf}
 use Rattle.table.specs.Accepted.{ArcRows}
@@ -20,11 +20,11 @@ abbrev pub boundedOf : (n s t : ℕ) (tails heads capacities minimums : List ℕ
 boundedOf n s t tails heads capacities minimums = record { table = tableOf n s t tails heads capacities; minimums = minimums }
 
 -- The bounded table in four rows that a call is given.
-abbrev pub givenBounded : (n s t : ℕ) (tails heads capacities minimums : Given) → BoundedTable
+abbrev pub givenBounded : (n s t : ℕ) (tails heads capacities minimums : GivenRow) → BoundedTable
 givenBounded n s t tails heads capacities minimums = boundedOf n s t (now tails) (now heads) (now capacities) (now minimums)
 
 -- The bounded table in four lent rows, as it was before the call.
-abbrev pub lentBounded : (n s t : ℕ) (tails heads capacities minimums : Lent) → BoundedTable
+abbrev pub lentBounded : (n s t : ℕ) (tails heads capacities minimums : LentRow) → BoundedTable
 lentBounded n s t tails heads capacities minimums = boundedOf n s t (before tails) (before heads) (before capacities) (before minimums)
 
 -- The least flow of the arc at place k.

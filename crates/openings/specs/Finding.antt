@@ -5,7 +5,7 @@ use mathlib.Core.Path.{_≡_}
 use mathlib.Core.List.{List}
 use lib.Dec.{leb}
 use lib.ListN.{length}
-use Rattle.rows.specs.Lent.{Lent, after}
+use Rattle.rows.specs.Lent.{LentRow, after}
 use Rattle.rows.specs.Row.{cleared}
 use Rattle.table.specs.Table.{Table, arcs}
 use Rattle.table.specs.Checks.{refuseIf, orElse}
@@ -37,7 +37,7 @@ leftOpenings openings flow side work sources sinks places =
     record { openings = openings; flow = flow; side = side; work = work; sources = sources; sinks = sinks; places = places }
 
 -- What the call returns, and what the six lent rows hold after it.
-abbrev pub leftOpeningsIn : Openings → (flow side work sources sinks places : Lent) → LeftOpenings
+abbrev pub leftOpeningsIn : Openings → (flow side work sources sinks places : LentRow) → LeftOpenings
 leftOpeningsIn openings flow side work sources sinks places =
     leftOpenings openings (after flow) (after side) (after work) (after sources) (after sinks) (after places)
 

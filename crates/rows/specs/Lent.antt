@@ -5,12 +5,12 @@ use denote.Triple.Both.{Both}
 use denote.Ref.{RefT, now}
 
 -- A row of numbers that is lent to a call, as a promise sees it: before the call and after it.
-abbrev pub Lent : Type 0
-Lent = Both (RefT (List ℕ)) (RefT (List ℕ))
+abbrev pub LentRow : Type 0
+LentRow = Both (RefT (List ℕ)) (RefT (List ℕ))
 
 -- A row of numbers that a call is given, as what the call requires sees it.
-abbrev pub Given : Type 0
-Given = RefT (List ℕ)
+abbrev pub GivenRow : Type 0
+GivenRow = RefT (List ℕ)
 
 -- What a lent row held before the call: when it began.
 abbrev pub before : {A X : Type 0} → Both (RefT A) X → A

@@ -19,7 +19,7 @@ use Rattle.network.proofs.Notions.{Sound, residual-over-ext}
 use Rattle.network.proofs.Push.{push-balance, moved-range}
 use Rattle.shortest.specs.Augment.{moved, waysIn, wayFrom, residualFrom, farFrom, leastWith, leastResidual, residualsOf, movedAt, filled, Fits, at-sink, goes}
 use Rattle.shortest.specs.Ways.{Leads, ahead, behind}
-use Rattle.shortest.specs.Distance.{Labels}
+use Rattle.shortest.specs.Labels.{Labels}
 use Rattle.shortest.specs.Chain.{Chain, arrived, step}
 use Rattle.shortest.proofs.Chains.{chain-long, leads-place}
 

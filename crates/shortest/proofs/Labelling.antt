@@ -12,7 +12,8 @@ use Rattle.rows.proofs.Sums.{by-test, by-equal}
 use Rattle.network.specs.Network.{Network}
 use Rattle.network.proofs.Notions.{Sound, residual-over-ext}
 use Rattle.shortest.specs.Ways.{Leads, ahead, behind, otherEnd}
-use Rattle.shortest.specs.Distance.{Labels, leadsTo, chainFrom, arrives, NoneLower}
+use Rattle.shortest.specs.Distance.{leadsTo, chainFrom}
+use Rattle.shortest.specs.Labels.{Labels, arrives, NoneLower}
 use Rattle.shortest.specs.Chain.{Chain, arrived, step, FirstChain}
 use Rattle.shortest.specs.Augment.{moved, waysIn, wayFrom, movedAt, filled, leastResidual, distancesIn, reaches, chainIn, augmented}
 use Rattle.shortest.proofs.Chains.{chain-long, leads-place, leadsTo-leads, leads-leadsTo, arrives-first, first-chain-same}

@@ -13,7 +13,8 @@ use Rattle.rows.proofs.Rows.{node-at}
 use Rattle.rows.proofs.Sums.{by-test, by-equal}
 use Rattle.rows.specs.Row.{atNode, Node}
 use Rattle.shortest.specs.Ways.{Ways, Leads, ahead, behind}
-use Rattle.shortest.specs.Distance.{Labels, lay, layTo, rounds, distances}
+use Rattle.shortest.specs.Distance.{lay, layTo, rounds, distances}
+use Rattle.shortest.specs.Labels.{Labels}
 use Rattle.shortest.proofs.Ends.{Ends, leads-within}
 
 -- ---- one node's distance

@@ -17,7 +17,7 @@ use Rattle.network.proofs.Gaps.{Valid, EndLabels, sink-unreached}
 use Rattle.reach.specs.Side.{marked, sideFrom}
 use Rattle.reach.proofs.Side.{side-reached}
 use Rattle.shortest.specs.Ways.{ahead, behind}
-use Rattle.shortest.specs.Distance.{arrives}
+use Rattle.shortest.specs.Labels.{arrives}
 use Rattle.shortest.specs.Chain.{Chain, arrived, step, FirstChain}
 use Rattle.shortest.specs.Augment.{waysIn, residualFrom, leastWith, leastResidual, filled, Fits, distancesIn, reaches, chainIn, augmented, goOn, enough, settled, GoesOn, stops, fills}
 use Rattle.shortest.proofs.Ends.{Ends}

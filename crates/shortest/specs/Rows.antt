@@ -5,7 +5,7 @@ use mathlib.Core.Bool.{Bool, cond}
 use mathlib.Core.List.{List}
 use lib.ListN.{length}
 use denote.Ref.{now}
-use Rattle.rows.specs.Lent.{Lent, Given, before}
+use Rattle.rows.specs.Lent.{LentRow, GivenRow, before}
 use Rattle.rows.specs.Row.{Node, atPlace}
 use Rattle.network.specs.Network.{Network, Flow}
 use Rattle.table.specs.Table.{Table, tableOf}
@@ -18,19 +18,19 @@ abbrev pub rowWays : (tails heads capacities minimums flow : List ℕ) → Ways
 rowWays tails heads capacities minimums flow = waysIn (boundNetwork 0 0 0 tails heads capacities minimums) flow
 
 -- The same of rows that a call is given,
-abbrev pub givenWays : (tails heads capacities minimums flow : Given) → Ways
+abbrev pub givenWays : (tails heads capacities minimums flow : GivenRow) → Ways
 givenWays tails heads capacities minimums flow = rowWays (now tails) (now heads) (now capacities) (now minimums) (now flow)
 
 -- and of lent rows, as they were before the call.
-abbrev pub lentWays : (tails heads capacities minimums flow : Lent) → Ways
+abbrev pub lentWays : (tails heads capacities minimums flow : LentRow) → Ways
 lentWays tails heads capacities minimums flow = rowWays (before tails) (before heads) (before capacities) (before minimums) (before flow)
 
 -- The network of four rows that a call is given,
-abbrev pub givenNetwork : (n s t : ℕ) (tails heads capacities minimums : Given) → Network
+abbrev pub givenNetwork : (n s t : ℕ) (tails heads capacities minimums : GivenRow) → Network
 givenNetwork n s t tails heads capacities minimums = boundNetwork n s t (now tails) (now heads) (now capacities) (now minimums)
 
 -- and of four lent rows, as it was before the call.
-abbrev pub lentNetwork : (n s t : ℕ) (tails heads capacities minimums : Lent) → Network
+abbrev pub lentNetwork : (n s t : ℕ) (tails heads capacities minimums : LentRow) → Network
 lentNetwork n s t tails heads capacities minimums = boundNetwork n s t (before tails) (before heads) (before capacities) (before minimums)
 
 -- The table of these rows, whichever nodes are source and sink: its lists are theirs.

@@ -5,7 +5,7 @@ use mathlib.Core.List.{List, _++_}
 use lib.Dec.{leb}
 use lib.ListN.{length, drop}
 use denote.Ref.{now}
-use Rattle.rows.specs.Lent.{Given}
+use Rattle.rows.specs.Lent.{GivenRow}
 use Rattle.rows.specs.Row.{cleared}
 use Rattle.table.specs.Table.{Table, arcs}
 use Rattle.table.specs.declared.Verdict.{Verdict}
@@ -57,7 +57,7 @@ hasSmallRoom n m tails heads capacities nodes-from arcs-from =
     leb m tails && (leb m heads && (leb m capacities && (leb n nodes-from && leb m arcs-from)))
 
 -- The rows that a call is given, other than that of the flow, have room: for the side, the work, and a smaller table and its origins.
-abbrev pub GivenRoomToReduce : (n : ℕ) (capacities side work small-tails small-heads small-capacities nodes-from arcs-from : Given) → Type 0
+abbrev pub GivenRoomToReduce : (n : ℕ) (capacities side work small-tails small-heads small-capacities nodes-from arcs-from : GivenRow) → Type 0
 GivenRoomToReduce n capacities side work small-tails small-heads small-capacities nodes-from arcs-from =
     (n ≤ length (now side)) × (workNeed n (length (now capacities)) ≤ length (now work))
     × (length (now capacities) ≤ length (now small-tails)) × (length (now capacities) ≤ length (now small-heads))

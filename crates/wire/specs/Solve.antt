@@ -4,7 +4,7 @@ use mathlib.Core.Bool.{cond}
 use mathlib.Core.List.{List, [], _∷_, _++_}
 use lib.Dec.{eqb}
 use lib.ListN.{length, take, drop}
-use Rattle.rows.specs.Lent.{Lent, after}
+use Rattle.rows.specs.Lent.{LentRow, after}
 use Rattle.little.specs.Little.{bytesOfAll}
 use Rattle.table.specs.Table.{Table, arcs}
 use Rattle.table.specs.Checks.{checkOf}
@@ -25,7 +25,7 @@ abbrev pub served : ℕ → (flow side result : List ℕ) → Served
 served returned flow side result = record { returned = returned; flow = flow; side = side; result = result }
 
 -- What the call returns, and what the three lent byte rows hold after it.
-abbrev pub servedIn : ℕ → (flow side result : Lent) → Served
+abbrev pub servedIn : ℕ → (flow side result : LentRow) → Served
 servedIn returned flow side result = served returned (after flow) (after side) (after result)
 
 -- The seven numbers of a result: stamp, value, D, K and the three counts.

@@ -4,7 +4,7 @@ use mathlib.Core.Path.{_≡_}
 use mathlib.Core.List.{List}
 use lib.Dec.{eqb}
 use lib.ListN.{length}
-use Rattle.rows.specs.Lent.{Lent, before, after}
+use Rattle.rows.specs.Lent.{LentRow, before, after}
 use Rattle.rows.specs.Row.{Node, atNode}
 use Rattle.rows.specs.Sum.{only}
 use Rattle.table.specs.Table.{Table}
@@ -34,19 +34,19 @@ abbrev pub runIn : (n : ℕ) (flow work : List ℕ) → Counts → Run
 runIn n flow work counts = runOf (stateIn n flow work) counts
 
 -- The state that two lent rows held before the call,
-abbrev pub stateBefore : (n : ℕ) (flow work : Lent) → State
+abbrev pub stateBefore : (n : ℕ) (flow work : LentRow) → State
 stateBefore n flow work = stateIn n (before flow) (before work)
 
 -- and the one that they hold after it.
-abbrev pub stateAfter : (n : ℕ) (flow work : Lent) → State
+abbrev pub stateAfter : (n : ℕ) (flow work : LentRow) → State
 stateAfter n flow work = stateIn n (after flow) (after work)
 
 -- The run that two lent rows held before the call,
-abbrev pub runBefore : (n : ℕ) (flow work : Lent) → Counts → Run
+abbrev pub runBefore : (n : ℕ) (flow work : LentRow) → Counts → Run
 runBefore n flow work counts = runIn n (before flow) (before work) counts
 
 -- and the one that they hold after it.
-abbrev pub runAfter : (n : ℕ) (flow work : Lent) → Counts → Run
+abbrev pub runAfter : (n : ℕ) (flow work : LentRow) → Counts → Run
 runAfter n flow work counts = runIn n (after flow) (after work) counts
 
 -- What a relabel of node i is to do: its new label, and a position of its list before which no residual arc leads below that.
