@@ -38,6 +38,11 @@ pub struct Table {
     arcs: Vec<u8>,
 }
 
+/// The rows of an answer hold the most arcs and nodes that a table may have, so that they can be lent for the table as it is later on, and an
+/// answer of an earlier state is refused for its age and not for its length.
+const FLOW_BYTES: usize = 4 * 4096;
+const NODES: usize = 512;
+
 /// A solved table's answer.
 #[derive(Clone, Debug)]
 pub struct Answer {
@@ -48,6 +53,7 @@ pub struct Answer {
     pub saturating: u64,
     pub nonsaturating: u64,
     pub relabels: u64,
+    arcs: usize,
     flow: Vec<u8>,
     side: Vec<u8>,
 }
@@ -105,8 +111,8 @@ impl Table {
     /// Solves the table.
     #[rustfmt::skip]
     pub fn solve(&self) -> Result<Answer, Refusal> {
-        let mut flow = vec![0; self.arcs.len() / 3];
-        let mut side = vec![0; self.n.min(512) as usize];
+        let mut flow = vec![0; FLOW_BYTES];
+        let mut side = vec![0; NODES];
         let mut result = [0; 56];
         told(unsafe {
             jorrabide_server_solve(
@@ -125,6 +131,7 @@ impl Table {
             saturating: number(&result, 4),
             nonsaturating: number(&result, 5),
             relabels: number(&result, 6),
+            arcs: self.arcs.len() / 12,
             flow,
             side,
         })
@@ -154,6 +161,7 @@ impl Answer {
     pub fn flow(&self) -> Vec<u32> {
         self.flow
             .chunks_exact(4)
+            .take(self.arcs)
             .map(|x| u32::from_le_bytes([x[0], x[1], x[2], x[3]]))
             .collect()
     }

@@ -311,7 +311,9 @@ int main(int count, char **words) {
     for (size_t k = 0; k < sizeof commands / sizeof *commands; k++)
         if (count >= 2 && strcmp(words[1], commands[k].name) == 0 && count - 2 >= commands[k].least && count - 2 <= commands[k].most) {
             int status = commands[k].run(words + 2);
-            return fflush(stdout) == 0 ? status : USAGE;
+            if (fflush(stdout) == 0 && !ferror(stdout)) return status;
+            perror("standard output");
+            return USAGE;
         }
     for (size_t k = 0; k < sizeof commands / sizeof *commands; k++) fprintf(stderr, "office %s %s\n", commands[k].name, commands[k].rest);
     return USAGE;

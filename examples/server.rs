@@ -1,5 +1,5 @@
 //! Document 01's listing through the booking server's calls: solves it, reads place 3, and reads it again after the table was
-//! rebuilt.
+//! rebuilt, once with another capacity and once with an arc more.
 
 mod jorrabide_server;
 use jorrabide_server::{Refusal, Table};
@@ -21,6 +21,8 @@ fn main() -> Result<(), Refusal> {
     println!("scale {}, phases {}, steps {steps:?}", answer.scale, answer.phases);
     println!("{:?}", table.read_place(&answer, 3)?);
     table.change(3, 6);
+    println!("{:?}", table.read_place(&answer, 3));
+    table.add(2, 4, 5);
     println!("{:?}", table.read_place(&answer, 3));
     Ok(())
 }

@@ -1,5 +1,6 @@
-/* The caller: takes calls from standard input, makes them through the static libraries, and writes on standard output
-   what came back and every lent row. Numbers are 32 bits and little-endian; marks, texts and what is served are bytes.
+/* The caller: takes calls from standard input, makes them through the static libraries by the headers that customers
+   get, and writes on standard output what came back and every lent row. Numbers are 32 bits and little-endian; marks,
+   texts and what is served are bytes.
 
    A call: its kind, n, s, t, the table's stamp, the answer's stamp, the place, its new capacity, a 64-bit number (its
    lower half first), the lengths of the rows, then the rows. Numbers that a call doesn't have are 0, rows that it
@@ -14,6 +15,9 @@
 #include <string.h>
 #include <unistd.h>
 
+#include "jorrabide.h"
+#include "jorrabide_server.h"
+
 enum {
     SOLVE = 1, SOLVE_RECORDS, READ_PLACE, READ_TEXT, SERVE, OPEN, SERVER_SOLVE, SERVER_PLACE, WRITE_SOLUTION,
     READ_SOLUTION, CHECK_PLAN, LIST_CHAINS, HAS_ROOM_FOR, FIND_OPENINGS, SHORTER, REDUCE,
@@ -27,34 +31,6 @@ enum { KIND, NODES, SOURCE, SINK, STAMP, ANSWER_STAMP, PLACE, CAPACITY, LOWER_HA
 enum { HEADER = LENGTHS + ROWS };
 enum { NUMBERS = 14, FENCE = 64, FENCE_BYTE = 0xA5 };
 
-/* The calls as they are compared. Each row is lent by where it begins and its length. */
-struct jorrabide_answer {
-    uint32_t refusal, place, stamp;
-    int64_t value;
-    uint64_t scale;
-    uint32_t phases;
-    uint64_t saturating, nonsaturating, relabels;
-};
-struct jorrabide_reading {
-    uint32_t refusal, place, flow, capacity, crossing;
-};
-struct jorrabide_text {
-    uint32_t refusal, place, n, m, s, t;
-};
-
-struct jorrabide_answer jorrabide_solve(
-    uint32_t n, uint32_t s, uint32_t t, uint32_t stamp, const uint32_t *tails, size_t, const uint32_t *heads, size_t,
-    const uint32_t *capacities, size_t, const uint32_t *minimums, size_t,
-    uint32_t *flow, size_t, uint8_t *side, size_t, uint32_t *work, size_t);
-struct jorrabide_reading jorrabide_read_place(
-    uint32_t n, uint32_t s, uint32_t t, uint32_t stamp, const uint32_t *tails, size_t, const uint32_t *heads, size_t,
-    const uint32_t *capacities, size_t, const uint32_t *minimums, size_t, uint32_t answer_stamp,
-    const uint32_t *flow, size_t, const uint8_t *side, size_t, uint32_t place);
-struct jorrabide_answer jorrabide_open(
-    uint32_t n, uint32_t s, uint32_t t, uint32_t stamp, const uint32_t *tails, size_t, const uint32_t *heads, size_t,
-    const uint32_t *capacities, size_t, const uint32_t *minimums, size_t, uint32_t place, uint32_t capacity,
-    uint32_t *flow, size_t, uint8_t *side, size_t, uint32_t *work, size_t);
-
 /* An arc record, and the entry over a row of them, which is not one of the calls for C. */
 struct arc {
     uint32_t tail, head, capacity, minimum;
@@ -64,107 +40,13 @@ struct jorrabide_answer solve_records(
     uint32_t *flow, size_t, uint8_t *side, size_t, uint32_t *work, size_t);
 
 /* Reading a text into four arc rows, and serving one, which are not among the calls for C either. */
+struct jorrabide_text {
+    uint32_t refusal, place, n, m, s, t;
+};
 struct jorrabide_text jorrabide_read_text(
     const uint8_t *text, size_t, uint32_t *tails, size_t, uint32_t *heads, size_t, uint32_t *capacities, size_t,
     uint32_t *minimums, size_t);
 size_t jorrabide_serve(const uint8_t *text, size_t, uint8_t *out, size_t);
-
-/* The booking server's calls. */
-uint64_t jorrabide_server_solve(
-    uint32_t n, uint32_t s, uint32_t t, uint32_t stamp, const uint8_t *arcs, size_t,
-    uint8_t *flow, size_t, uint8_t *side, size_t, uint8_t *result, size_t);
-uint64_t jorrabide_server_place(
-    uint32_t n, uint32_t s, uint32_t t, uint32_t stamp, const uint8_t *arcs, size_t, uint32_t answer_stamp,
-    const uint8_t *flow, size_t, const uint8_t *side, size_t, uint32_t place, uint8_t *result, size_t);
-
-/* Solution texts: written, and read back. */
-struct jorrabide_written {
-    uint32_t refusal, place;
-    size_t filled;
-};
-struct jorrabide_read_back {
-    uint32_t refusal, place;
-    uint64_t value;
-};
-struct jorrabide_written jorrabide_write_solution(
-    uint32_t n, uint32_t s, uint32_t t, const uint32_t *tails, size_t, const uint32_t *heads, size_t,
-    const uint32_t *capacities, size_t, const uint32_t *minimums, size_t, uint64_t value,
-    const uint32_t *flow, size_t, uint8_t *text, size_t);
-struct jorrabide_read_back jorrabide_read_solution(
-    uint32_t n, uint32_t s, uint32_t t, const uint32_t *tails, size_t, const uint32_t *heads, size_t,
-    const uint32_t *capacities, size_t, const uint32_t *minimums, size_t,
-    const uint8_t *text, size_t, uint32_t *flow, size_t);
-
-/* Checking a plan. */
-struct jorrabide_checked {
-    uint32_t refusal, place, full;
-};
-struct jorrabide_checked jorrabide_check_plan(
-    uint32_t n, uint32_t s, uint32_t t, const uint32_t *tails, size_t, const uint32_t *heads, size_t,
-    const uint32_t *capacities, size_t, const uint32_t *minimums, size_t,
-    const uint8_t *text, size_t, const uint8_t *side, size_t);
-
-/* Listing chains. */
-struct jorrabide_listed {
-    struct jorrabide_answer answer;
-    uint32_t filled;
-};
-struct jorrabide_listed jorrabide_list_chains(
-    uint32_t n, uint32_t s, uint32_t t, uint32_t stamp, const uint32_t *tails, size_t, const uint32_t *heads, size_t,
-    const uint32_t *capacities, size_t, const uint32_t *minimums, size_t,
-    uint32_t *flow, size_t, uint8_t *side, size_t, uint32_t *work, size_t, uint32_t *list, size_t);
-
-/* Asking whether there is room for q. */
-struct jorrabide_room {
-    uint32_t refusal, place, stamp, yes;
-    uint64_t value, scale;
-    uint32_t phases;
-    uint64_t saturating, nonsaturating, relabels;
-};
-struct jorrabide_room jorrabide_has_room_for(
-    uint32_t n, uint32_t s, uint32_t t, uint32_t stamp, const uint32_t *tails, size_t, const uint32_t *heads, size_t,
-    const uint32_t *capacities, size_t, const uint32_t *minimums, size_t, uint64_t q, uint32_t *work, size_t);
-
-/* Finding which openings would help, and handing back the filled part of the shorter list. */
-struct jorrabide_openings {
-    struct jorrabide_answer answer;
-    uint32_t sources, sinks, places;
-};
-struct jorrabide_part {
-    uint32_t refusal, place, filled;
-};
-struct jorrabide_openings jorrabide_find_openings(
-    uint32_t n, uint32_t s, uint32_t t, uint32_t stamp, const uint32_t *tails, size_t, const uint32_t *heads, size_t,
-    const uint32_t *capacities, size_t, const uint32_t *minimums, size_t,
-    uint32_t *flow, size_t, uint8_t *side, size_t, uint32_t *work, size_t,
-    uint32_t *sources, size_t, uint32_t *sinks, size_t, uint32_t *places, size_t);
-struct jorrabide_part jorrabide_shorter(
-    const uint32_t *first, size_t, const uint32_t *second, size_t, uint32_t in_first, uint32_t in_second,
-    uint32_t *part, size_t);
-
-/* Making a table smaller. */
-struct jorrabide_reduced {
-    struct jorrabide_answer answer;
-    uint32_t nodes, arcs, source, sink, stamp;
-};
-struct jorrabide_reduced jorrabide_reduce(
-    uint32_t n, uint32_t s, uint32_t t, uint32_t stamp, const uint32_t *tails, size_t, const uint32_t *heads, size_t,
-    const uint32_t *capacities, size_t, const uint32_t *minimums, size_t,
-    uint32_t *flow, size_t, uint8_t *side, size_t, uint32_t *work, size_t, uint32_t *small_tails, size_t,
-    uint32_t *small_heads, size_t, uint32_t *small_capacities, size_t, uint32_t *nodes_from, size_t,
-    uint32_t *arcs_from, size_t);
-
-/* Solving a month. */
-struct jorrabide_month {
-    uint32_t refusal, place, solved;
-    uint64_t total;
-    uint32_t day;
-};
-struct jorrabide_month jorrabide_solve_month(
-    const uint32_t *starts, size_t, const uint32_t *nodes, size_t, const uint32_t *sources, size_t,
-    const uint32_t *sinks, size_t, const uint32_t *stamps, size_t, const uint32_t *tails, size_t,
-    const uint32_t *heads, size_t, const uint32_t *capacities, size_t, const uint32_t *minimums, size_t,
-    uint32_t *flow, size_t, uint8_t *side, size_t, uint32_t *work, size_t, uint64_t *answers, size_t);
 
 /* A row as the calls take it: where it begins and its length. */
 #define LENT_NUMBERS(row) numbers(row), (row).length

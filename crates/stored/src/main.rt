@@ -9,7 +9,7 @@ fn answer_stored(name: &[u8]) {
         os::fail(name);
         return;
     }
-    clerk::answer(file);
+    clerk::answer(file, name);
     libc::close(file);
 }
 
