@@ -40,11 +40,11 @@ module _ (t : Table) (excess : List ℕ) (i j d : ℕ) (held : ℕ) (left : List
 
 -- ---- a push asks nothing more than that the rows are in order and the excesses together fit 32 bits
 
-module _ (tails heads capacities flow excess : List ℕ) (delta i k d : ℕ) (rows : ArcRows (length excess) tails heads capacities) (within : WithinCapacities capacities flow)
-    (l : k < length capacities) (is : d ≡ amount (tableOf (length excess) 0 0 tails heads capacities) delta (stateOf flow excess []) i k) where
-  -- The table of these rows; what is pushed does not depend on source and sink.
+module _ (tails heads capacities flow excess : List ℕ) (s t delta i k d : ℕ) (rows : ArcRows (length excess) tails heads capacities) (within : WithinCapacities capacities flow)
+    (l : k < length capacities) (is : d ≡ amount (tableOf (length excess) s t tails heads capacities) delta (stateOf flow excess []) i k) where
+  -- The table of these rows.
   abbrev table : Table
-  table = tableOf (length excess) 0 0 tails heads capacities
+  table = tableOf (length excess) s t tails heads capacities
 
   -- What is pushed is at most the excess, and at most the residual.
   most : (d ≤ atNode excess i) × (d ≤ residual table flow i k)
@@ -74,7 +74,7 @@ module _ (tails heads capacities flow excess : List ℕ) (delta i k d : ℕ) (ro
     pub push-shifts : Node (length excess) i → total excess < 2 ^ 32
         → Node (length excess) j × ((i ≡ j → ⊥) × ((d ≤ atNode excess i) × (atNode excess j + d < 2 ^ 32)))
     push-shifts here small =
-        let there : Node (length excess) j = far-node i rows l j e in
+        let there : Node (length excess) j = far-node s t i rows l j e in
         let both = total-two excess (i - 1) (j - 1) (omega arith) (omega arith) (λ q. far-other (omega arith)) in
         (there, (far-other, (most .0, omega (arith, most .0, node-at excess i (here .0), node-at excess j (there .0)))))
 

@@ -32,11 +32,11 @@ far-either P t i k at-head at-tail = go (way t i k)
     go false = at-tail
 
 -- The far end of an arc is a node.
-pub far-node : {n k : ℕ} {tails heads capacities : List ℕ} (i : ℕ) → ArcRows n tails heads capacities → k < length capacities
-    → (j : ℕ) → j ≡ far (tableOf n 0 0 tails heads capacities) i k → Node n j
-far-node {n} {k} {tails} {heads} {capacities} i rows l j e =
+pub far-node : {n k : ℕ} {tails heads capacities : List ℕ} (s t i : ℕ) → ArcRows n tails heads capacities → k < length capacities
+    → (j : ℕ) → j ≡ far (tableOf n s t tails heads capacities) i k → Node n j
+far-node {n} {k} {tails} {heads} {capacities} s t i rows l j e =
     subst⁻¹ (Node n) e
-    (far-either (Node n) (tableOf n 0 0 tails heads capacities) i k
+    (far-either (Node n) (tableOf n s t tails heads capacities) i k
     (rows .ends .head-node k (omega (arith, rows .capacities-long))) (rows .ends .tail-node k (omega (arith, rows .capacities-long))))
 
 -- Of an arc that touches i the far end is what both ends add up to, less i.

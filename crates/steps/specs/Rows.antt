@@ -4,9 +4,9 @@ use mathlib.Core.Path.{_≡_}
 use mathlib.Core.Bool.{Bool, true}
 use mathlib.Core.List.{List, []}
 use lib.ListN.{length}
-use Rattle.rows.specs.Row.{atPlace}
+use Rattle.rows.specs.Row.{Node, atPlace}
 use Rattle.table.specs.Table.{Table, tableOf}
-use Rattle.arcs.specs.Residual.{touches}
+use Rattle.arcs.specs.Residual.{far, touches}
 use Rattle.run.specs.Start.{State}
 use Rattle.run.specs.Push.{eligible, saturates, push}
 use Rattle.looking.specs.Looked.{NoneBefore}
@@ -21,10 +21,20 @@ touching tails heads i k = touches (tableOf 0 0 0 tails heads []) i k
 abbrev pub AllTouch : ℕ → (tails heads : List ℕ) → ℕ → List ℕ → Type 0
 AllTouch m tails heads i list = (j : ℕ) → j < length list → (atPlace list j < m) × (touching tails heads i (atPlace list j) ≡ true)
 
--- Where the search of node i's list stopped: at position p, where place k stands, the first eligible; or at the end, with none eligible.
+-- Every number of a list is a place below m, and beside it, in a row as long, stands one of n nodes.
+pub record Beside (m n : ℕ) (places ends : List ℕ) : Type 0 where
+  pub long : length ends ≡ length places
+  pub place-below : (j : ℕ) → j < length places → atPlace places j < m
+  pub end-node : (j : ℕ) → j < length places → Node n (atPlace ends j)
+
+-- The node that stands beside each arc of node i's list is the arc's far end.
+abbrev pub FarEnds : Table → ℕ → (places ends : List ℕ) → Type 0
+FarEnds t i places ends = (j : ℕ) → j < length places → atPlace ends j ≡ far t i (atPlace places j)
+
+-- Where the search of node i's list stopped: at position p, where place k stands, the first eligible, with its far end; or at the end, with none eligible.
 abbrev pub SpotIs : Table → State → ℕ → List ℕ → Spot → Type 0
-SpotIs t st i places (At p k) =
-    (p < length places) × (k ≡ atPlace places p) × NoneBefore t st i places p × (eligible t st i k ≡ true)
+SpotIs t st i places (At p k there) =
+    (p < length places) × (k ≡ atPlace places p) × NoneBefore t st i places p × (eligible t st i k ≡ true) × (there ≡ far t i k)
 SpotIs t st i places End = NoneBefore t st i places (length places)
 
 -- What a push leaves: the flow row, the excess row, and whether it was saturating.

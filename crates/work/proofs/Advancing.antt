@@ -1,40 +1,43 @@
 -- Laws of a step with what the run keeps beside the state: it is document 01's step, and the next one finds all that it needs.
-use Prim.Native.Nat.{ℕ, _+_, _-_, _≤_}
+use Prim.Native.Nat.{ℕ, _+_, _-_, _*_, _≤_}
 use native.Mathlib.Omega.{arith}
 use mathlib.Core.Path.{_≡_, refl, ap, sym, _∙_, subst}
 use mathlib.Core.Bool.{Bool, true, true≢false}
 use mathlib.Core.List.{List}
-use borrow.Author.Tests.{ne-eqb}
-use lib.Dec.{eqb}
+use borrow.Author.Tests.{eqb-true, ne-eqb}
+use lib.Dec.{eqb, ltb}
 use lib.ListN.{length, set, length-set}
 use Rattle.rows.specs.Row.{Node, atNode}
 use Rattle.rows.specs.Sum.{only}
-use Rattle.rows.proofs.Sums.{by-equal, only-false, only-le, put-same, put-other}
+use Rattle.rows.proofs.Sums.{both-true, by-equal, by-order, only-false, only-le, put-same, put-other}
 use Rattle.rows.proofs.Rows.{node-set}
 use Rattle.network.specs.Network.{isInner}
 use Rattle.network.proofs.Notions.{sink-test}
 use Rattle.table.specs.Table.{Table, networkOf}
-use Rattle.arcs.specs.Residual.{far, list}
+use Rattle.arcs.specs.Residual.{far, residual, list}
 use Rattle.run.specs.Start.{State}
 use Rattle.run.specs.Push.{eligible, amount, moved, saturates, push}
 use Rattle.run.specs.Relabel.{top, newLabel, relabel}
 use Rattle.run.specs.Phase.{Run, onePush, oneRelabel}
 use Rattle.run.specs.Rows.{stateOf, runOf, Fits}
+use Rattle.run.specs.declared.Choice.the-variants.{Node as Chosen}
 use Rattle.run.specs.declared.Counts.{Counts}
 use Rattle.run.proofs.Networks.{by-cond}
 use Rattle.run.proofs.Arcs.{least-le}
+use Rattle.run.proofs.Choices.{choose-chosen}
 use Rattle.until.specs.Gain.{gainAlong}
 use Rattle.until.proofs.Gains.{gain-push, gain-relabel}
 use Rattle.looking.specs.Looked.{Looked, ValidLabels, HighBefore}
 use Rattle.looking.proofs.Keeping.{looked-push, looked-relabel}
-use Rattle.tournament.specs.Tournament.{key, LowLabels, rekeyed, Tournament}
-use Rattle.tournament.proofs.Mending.{tournament-same, keys-two}
+use Rattle.tournament.specs.Tournament.{key, LowLabels, without, AllBut, Chose}
+use Rattle.tournament.proofs.Mending.{key-small}
+use Rattle.tournament.proofs.Standing.{but-two, key-same}
 use Rattle.steps.specs.Rows.{SpotIs}
 use Rattle.steps.specs.declared.Spot.the-variants.{At, End}
 use Rattle.steps.specs.declared.Lowest.{Lowest}
 use Rattle.steps.proofs.Searching.{found-at, found-none}
-use Rattle.work.specs.Held.{Relabels, Apart, brought, Stepped, Ready}
-use Rattle.work.proofs.Stepping.{step-push, step-relabel}
+use Rattle.work.specs.Held.{Relabels, Apart, brought, Stepped}
+use Rattle.work.proofs.Stepping.{choice-is, step-push, step-relabel}
 
 -- A store at node i changes no other node.
 set-apart : (row : List ℕ) (i x : ℕ) → Node (length row) i → (v : ℕ) → (v ≡ i → ⊥) → atNode (set row (i - 1) x) v ≡ atNode row v
@@ -95,11 +98,19 @@ module _ (t : Table) (delta : ℕ) (st : State) (counts : Counts) (i : ℕ) (loo
       only-false (eqb (far t i k) (t .sink)) (atNode (st .excess) i - has) (ne-eqb (far t i k) (t .sink) ne)
       ∙ sym (only-false (eqb (far t i k) (t .sink)) (amount t delta st i k) (ne-eqb (far t i k) (t .sink) ne)))
 
+  -- An eligible arc leads one label down.
+  eligible-down : (k : ℕ) → eligible t st i k ≡ true → atNode (st .label) (far t i k) + 1 ≡ atNode (st .label) i
+  eligible-down k e =
+      let there = atNode (st .label) (far t i k) + 1 in
+      let own = atNode (st .label) i in
+      eqb-true there own (both-true (ltb 0 (residual t (st .flow) i k)) (eqb there own) e .1)
+
   -- A push along the place where the search stopped.
-  pub stepped-push : (p k other : ℕ) (full : Bool) → SpotIs t st i (list t i) (At p k) → Node (t .nodes) other → other ≡ far t i k
+  pub stepped-push : (p k other : ℕ) (full : Bool) → SpotIs t st i (list t i) (At p k other) → Node (t .nodes) other
       → after ≡ push t delta st i k → full ≡ saturates t delta st i k → counted ≡ onePush counts full → looked-after ≡ set looked (i - 1) p
       → Stepped t delta (runOf st counts) i (runOf after counted) looked-after other
-  stepped-push p k other full spot there other-is after-is full-is counted-is looked-is =
+  stepped-push p k other full spot there after-is full-is counted-is looked-is =
+      let other-is = spot .4 in
       let labels : after .label ≡ st .label = ap (λ (s : State). s .label) after-is ∙ push-label k in
       let found = found-at t st i (list t i) p k (spot .0) (spot .1) (spot .2) (spot .3) in
       let has-is : atNode (after .excess) i ≡ atNode (push t delta st i k .excess) i = ap (λ (s : State). atNode (s .excess) i) after-is in
@@ -110,6 +121,7 @@ module _ (t : Table) (delta : ℕ) (st : State) (counts : Counts) (i : ℕ) (loo
             (looked-push t delta st looked i p node known (spot .0) (spot .2) (subst (λ (x : ℕ). eligible t st i x ≡ true) (spot .1) (spot .3)));
         low = subst LowLabels (sym labels) (low-labels t st few (fits .label) valid);
         other-node = there;
+        other-down = λ _. omega (arith, ap (atNode (st .label)) other-is, eligible-down k (spot .3));
         excess-apart = λ v ni nj. ap (λ (s : State). atNode (s .excess) v) after-is ∙ push-apart k other there other-is v ni nj;
         label-apart = λ v ni nj. ap (λ (row : List ℕ). atNode row v) labels;
         falls = λ e. omega (arith, has-is, push-falls k other other-is e);
@@ -142,6 +154,7 @@ module _ (t : Table) (delta : ℕ) (st : State) (counts : Counts) (i : ℕ) (loo
             (looked-relabel t st looked i (found .at) valid (fits .label) node known (rel .within) (subst (HighBefore t st i (list t i) (found .at)) (rel .label-is) (rel .high)));
         low = subst LowLabels (sym labels) (low-set (found .label) (omega (arith, rel .label-is, least-le t st i (list t i) (top t))));
         other-node = node;
+        other-down = λ ne. absurd (ne refl);
         excess-apart = λ v ni nj. ap (λ (s : State). atNode (s .excess) v) after-is;
         label-apart = λ v ni nj. ap (λ (row : List ℕ). atNode row v) labels ∙ set-apart (st .label) i (found .label) here v ni;
         falls = λ e. omega (arith, same);
@@ -151,15 +164,21 @@ module _ (t : Table) (delta : ℕ) (st : State) (counts : Counts) (i : ℕ) (loo
       relabelled : (found : Lowest) → Relabels t st i found → stateOf (st .flow) (st .excess) (set (st .label) (i - 1) (found .label)) ≡ relabel t st i
       relabelled found rel = ap (λ (x : ℕ). stateOf (st .flow) (st .excess) (set (st .label) (i - 1) x)) (rel .label-is) ∙ sym (relabel-is t st i)
 
--- After a step at i that changed one other node, with both keys brought up to date, the next may be taken.
-pub ready-after : (t : Table) (delta : ℕ) (before : Run) (i : ℕ) (after : Run) (looked tree : List ℕ) (other : ℕ) → Stepped t delta before i after looked other
-    → Tournament (t .nodes) (rekeyed (rekeyed (key delta (before .state .excess) (before .state .label)) i (key delta (after .state .excess) (after .state .label) i)) other (key delta (after .state .excess) (after .state .label) other)) tree
-    → Ready t delta (after .state) looked tree
-ready-after t delta before i after looked tree other stepped made =
-    record {
-      lists = stepped .looked-on;
-      keys =
-          tournament-same (t .nodes) _ (key delta (after .state .excess) (after .state .label)) tree
-          (λ v node. keys-two delta (before .state .excess) (before .state .label) (after .state .excess) (after .state .label) i other v (stepped .excess-apart v) (stepped .label-apart v))
-          made;
-    }
+-- After a step at the chosen node i the tournament has all keys but two: none stands for the other node, whose label was lower than the least.
+pub ready-after : (t : Table) (delta : ℕ) (before : Run) (i : ℕ) (after : Run) (looked tree : List ℕ) (other : ℕ)
+    → Stepped t delta before i after looked other → Chose (t .nodes) delta (before .state .excess) (before .state .label) tree (Chosen i)
+    → AllBut (t .nodes) (without (key delta (after .state .excess) (after .state .label)) other) tree i
+ready-after t delta before i after looked tree other stepped chose =
+    let was = before .state in
+    let is = after .state in
+    but-two (t .nodes) (key delta (was .excess) (was .label)) (key delta (is .excess) (is .label)) tree i other
+    (λ v ni nj. key-same delta (was .excess) (was .label) (is .excess) (is .label) v (stepped .excess-apart v ni nj) (stepped .label-apart v ni nj))
+    (λ ne. sym (key-small delta (was .excess) (was .label) other (atNode (was .excess) other) refl (small ne)))
+    (chose .others)
+  where
+    small : (other ≡ i → ⊥) → 2 * atNode (before .state .excess) other ≤ delta
+    small ne =
+        let chosen = choose-chosen t delta (before .state) i (sym (choice-is t delta (before .state) (Chosen i) tree chose)) in
+        by-order (2 * atNode (before .state .excess) other) delta
+        (λ l. l)
+        (λ large. absurd (omega (arith, stepped .other-down ne, chosen .lowest other (stepped .other-node) large)))

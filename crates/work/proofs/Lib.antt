@@ -2,3 +2,4 @@ pub mod Stepping
 pub mod Advancing
 pub mod Phasing
 pub mod Going
+pub mod Beside

@@ -6,12 +6,12 @@ use mathlib.Core.Bool.{Bool}
 use mathlib.Core.List.{List, _++_, append-nil}
 use lib.ListN.{length, set, drop, drop-of-length-le}
 use Rattle.rows.specs.Row.{byNode}
-use Rattle.table.specs.Table.{Table, tableOf, arcs}
+use Rattle.table.specs.Table.{Table, arcs}
 use Rattle.table.specs.Accepted.{ArcRows}
 use Rattle.arcs.specs.Residual.{list}
 use Rattle.arcs.proofs.Joined.{list-few}
 use Rattle.run.specs.Start.{State, startFlow, startLabelAt, start}
-use Rattle.run.specs.Choice.{chooseTo, choose}
+use Rattle.run.specs.Choice.{choose}
 use Rattle.run.specs.Push.{firstEligible, saturates, push}
 use Rattle.run.specs.Relabel.{leastFar, top, newLabel, relabel}
 use Rattle.run.specs.Phase.{onePush, oneRelabel, stepAt, step}
@@ -19,6 +19,7 @@ use Rattle.run.specs.Rows.{stateOf, runOf}
 use Rattle.run.specs.declared.Choice.{Choice}
 use Rattle.run.specs.declared.Counts.{Counts}
 use Rattle.run.specs.declared.Found.the-variants.{Place, Missing}
+use Rattle.tournament.specs.Tournament.{Chose}
 use Rattle.steps.specs.Rows.{Pushed}
 
 -- States whose rows are equal are equal.
@@ -26,20 +27,17 @@ pub same-state : {flow flow′ excess excess′ label label′ : List ℕ} → f
     → stateOf flow excess label ≡ stateOf flow′ excess′ label′
 same-state p q r = rw (p, q, r)
 
--- The choice that the code answers, of rows with a number for each node, is the choice.
-pub choice-is : (t : Table) (delta : ℕ) (st : State) (answer : Choice) → answer ≡ chooseTo delta (st .excess) (st .label) (length (st .label))
-    → length (st .label) ≡ t .nodes → answer ≡ choose t delta st
+-- The choice that the tournament gives is the choice.
+pub choice-is : (t : Table) (delta : ℕ) (st : State) (answer : Choice) (tree : List ℕ) → Chose (t .nodes) delta (st .excess) (st .label) tree answer
+    → answer ≡ choose t delta st
 unfolding choose
-choice-is t delta st answer e long = e ∙ ap (chooseTo delta (st .excess) (st .label)) long
+choice-is t delta st answer tree chose = chose .is
 
 -- The label that the code answers, from node i's list, is the new one.
 pub label-is : (t : Table) (st : State) (i : ℕ) (places : List ℕ) (label : ℕ) → length (st .label) ≡ t .nodes → places ≡ list t i
-    → label ≡ leastFar (tableOf (length (st .label)) (t .source) (t .sink) (t .tails) (t .heads) (t .capacities)) st i places (2 * length (st .label)) + 1
-    → label ≡ newLabel t st i
+    → label ≡ leastFar t st i places (2 * length (st .label)) + 1 → label ≡ newLabel t st i
 label-is t st i places label long listed e =
-    e
-    ∙ ap (λ (n : ℕ). leastFar (tableOf n (t .source) (t .sink) (t .tails) (t .heads) (t .capacities)) st i places (2 * n) + 1) long
-    ∙ ap (λ (l : List ℕ). leastFar t st i l (top t) + 1) listed
+    e ∙ ap (λ (n : ℕ). leastFar t st i places (2 * n) + 1) long ∙ ap (λ (l : List ℕ). leastFar t st i l (top t) + 1) listed
 
 -- What a push leaves is the state after it.
 pub pushed-state : {t : Table} {delta i k : ℕ} {st : State} {flow excess : List ℕ} {full : Bool} → Pushed t delta st i k flow excess full

@@ -1,27 +1,30 @@
 -- What the flow row and the work row hold while the run goes on: for the contracts of the run over one work row.
-use Prim.Native.Nat.{ℕ, _-_, _≤_, _<_}
+use Prim.Native.Nat.{ℕ, _+_, _-_, _≤_, _<_}
 use mathlib.Core.Path.{_≡_}
 use mathlib.Core.List.{List}
 use lib.Dec.{eqb}
 use lib.ListN.{length}
 use Rattle.rows.specs.Lent.{LentRow, before, after}
-use Rattle.rows.specs.Row.{Node, atNode}
+use Rattle.rows.specs.Row.{Node, atPlace, atNode}
 use Rattle.rows.specs.Sum.{only}
 use Rattle.table.specs.Table.{Table}
-use Rattle.arcs.specs.Residual.{list}
+use Rattle.arcs.specs.Residual.{far, list}
+use Rattle.arcs.specs.Lists.{joined}
+use Rattle.arcs.specs.Sort.{entriesBefore}
 use Rattle.arcs.specs.Work.{excessPart, labelsPart, SameLists}
 use Rattle.run.specs.Start.{State}
 use Rattle.run.specs.Scale.{phaseCount, scale}
 use Rattle.run.specs.Relabel.{newLabel}
 use Rattle.run.specs.Phase.{Run, step, deltaAfter, after as afterPhases, run}
 use Rattle.run.specs.Rows.{stateOf, runOf, steps}
+use Rattle.run.specs.declared.Choice.{Choice}
 use Rattle.run.specs.declared.Counts.{Counts}
 use Rattle.run.specs.declared.Outcome.{Outcome}
 use Rattle.until.specs.Stepwise.{afterSteps}
 use Rattle.until.specs.Stopping.{intoSink, stepsUntil, stopped}
 use Rattle.until.specs.Gain.{gain}
 use Rattle.looking.specs.Looked.{Looked, HighBefore}
-use Rattle.tournament.specs.Tournament.{key, LowLabels, Tournament}
+use Rattle.tournament.specs.Tournament.{LowLabels, Chose}
 use Rattle.steps.specs.declared.Lowest.{Lowest}
 use Rattle.work.specs.declared.Stop.{Stop}
 
@@ -64,21 +67,31 @@ abbrev pub brought : (sink other had has : ℕ) → ℕ
 brought sink other had has = only (eqb other sink) (had - has)
 
 -- What a step at node i leaves: document 01's step, how far each list was looked through, and nodes other than i and one more as they were;
--- if that one is the sink, it was brought what left node i.
+-- that one, if it is another, has a label one less, and if it is the sink, it was brought what left node i.
 pub record Stepped (t : Table) (delta : ℕ) (before : Run) (i : ℕ) (after : Run) (looked : List ℕ) (other : ℕ) : Type 0 where
   pub is : after ≡ step t delta before i
   pub looked-on : Looked t (after .state) looked
   pub low : LowLabels (after .state .label)
   pub other-node : Node (t .nodes) other
+  pub other-down : (other ≡ i → ⊥) → atNode (before .state .label) other + 1 ≡ atNode (before .state .label) i
   pub excess-apart : Apart i other (before .state .excess) (after .state .excess)
   pub label-apart : Apart i other (before .state .label) (after .state .label)
   pub falls : other ≡ t .sink → atNode (after .state .excess) i ≤ atNode (before .state .excess) i
   pub brings : brought (t .sink) other (atNode (before .state .excess) i) (atNode (after .state .excess) i) ≡ gain t delta (before .state) i
 
--- What the run keeps beside document 01's state: how far each list was looked through, and the tournament of the nodes' keys.
-pub record Ready (t : Table) (delta : ℕ) (st : State) (looked tree : List ℕ) : Type 0 where
+-- What the run keeps beside document 01's state: how far each list was looked through, the next choice, and the tournament of the other nodes' keys.
+pub record Ready (t : Table) (delta : ℕ) (st : State) (looked tree : List ℕ) (next : Choice) : Type 0 where
   pub lists : Looked t st looked
-  pub keys : Tournament (t .nodes) (key delta (st .excess) (st .label)) tree
+  pub chose : Chose (t .nodes) delta (st .excess) (st .label) tree next
+
+-- A row has the far ends of the arcs in the lists of nodes 1 to i, each at its entry's position: node v's behind those of the nodes before v.
+abbrev pub FarTo : Table → ℕ → List ℕ → Type 0
+FarTo t i ends = (v j : ℕ) → Node i v → j < length (list t v) → atPlace ends (entriesBefore (list t) v + j) ≡ far t v (atPlace (list t v) j)
+
+-- A row has them of all nodes' lists.
+pub record FarRow (t : Table) (ends : List ℕ) : Type 0 where
+  pub room : length (joined (list t) (t .nodes)) ≤ length ends
+  pub far-is : FarTo t (t .nodes) ends
 
 -- A phase at Delta is to come: the run stands after some of its phases, and not all.
 pub record Between (t : Table) (delta : ℕ) (now : Run) : Type 0 where

@@ -5,14 +5,13 @@ use run::Outcome;
 use steps::Lowest;
 use steps::Spot;
 ghost use mathlib.Core.Path.{_≡_};
-ghost use mathlib.Core.Bool.{true};
 ghost use Prim.Native.Nat.{ℕ, _+_, _-_, _^_, _≤_, _<_};
 ghost use lib.ListN.{length, set, replicate};
 ghost use Rattle.rows.specs.Lent.{before, after};
 ghost use Rattle.rows.specs.Row.{Node, atNode};
-ghost use Rattle.table.specs.Table.{lentTable, givenTable};
+ghost use Rattle.table.specs.Table.{Table, lentTable, givenTable};
 ghost use Rattle.table.specs.Accepted.{Accepted, ArcRows};
-ghost use Rattle.arcs.specs.Residual.{list};
+ghost use Rattle.arcs.specs.Residual.{far, list};
 ghost use Rattle.arcs.specs.Work.{startsAt, entriesAt, excessPart, labelsPart, lookedPart, listsPart, SameLists, InWork, workNeed};
 ghost use Rattle.run.specs.Start.{start};
 ghost use Rattle.run.specs.Scale.{largest, phasesFor, phaseCount};
@@ -22,9 +21,9 @@ ghost use Rattle.run.specs.Rows.{steps, WithinCapacities, InPhase};
 ghost use Rattle.until.specs.Stopping.{intoSink, stopped};
 ghost use Rattle.until.specs.Gain.{gain};
 ghost use Rattle.looking.specs.Looked.{Looked, ValidLabels};
-ghost use Rattle.tournament.specs.Tournament.{key, LowLabels, rekeyed, Tournament};
-ghost use Rattle.steps.specs.Rows.{touching, SpotIs};
-ghost use Rattle.work.specs.Held.{stateIn, runIn, Relabels, brought, Stepped, Ready, Between, Underway, RanUntil, Ran, stateBefore, stateAfter, runBefore, runAfter};
+ghost use Rattle.tournament.specs.Tournament.{key, LowLabels, without, AllBut, Chose};
+ghost use Rattle.steps.specs.Rows.{FarEnds, SpotIs};
+ghost use Rattle.work.specs.Held.{stateIn, runIn, Relabels, brought, Stepped, Ready, FarRow, Between, Underway, RanUntil, Ran, stateBefore, stateAfter, runBefore, runAfter};
 
 // What a step answers beside the rows: the counts, and the node beside the chosen one that it changed (after a relabel that is the chosen one again).
 struct Taken {
@@ -38,6 +37,12 @@ struct Tally {
     sink: u64,
 }
 
+// What a turn answers beside the rows: the tally, and the choice of the next step.
+struct Turned {
+    tally: Tally,
+    next: Choice,
+}
+
 // What the run that stops answers beside the rows: the steps taken and the net flow into the sink; K and D of the whole run.
 pub struct Stop {
     pub counts: Counts,
@@ -46,25 +51,37 @@ pub struct Stop {
     pub scale: u64,
 }
 
-// The tournament of the keys of all nodes, whose excesses and labels the work row holds.
-fn build_keys(n: u32, work: &[u32], tree: &mut [u32], delta: u64)
+// The choice of the first step: the tournament of the nodes' keys, whose excesses and labels the work row holds, is built.
+fn first_choice(n: u32, work: &[u32], tree: &mut [u32], delta: u64) -> Choice
     requires { ⌜ (n ≤ 512) × (startsAt n ≤ length (now work)) × LowLabels (labelsPart n (now work)) × (length (now tree) ≡ 1024) ⌝ }
-    ensures { λ _. ⌜ Tournament n (key delta (excessPart n (before work)) (labelsPart n (before work))) (after tree) ⌝ }
+    ensures { λ r. ⌜ Chose n delta (excessPart n (before work)) (labelsPart n (before work)) (after tree) r ⌝ }
 {
     let nodes = n as usize;
     let end = nodes + nodes;
-    tournament::build(tree, &work[0..nodes], &work[nodes..end], delta);
+    tournament::choose_first(tree, &work[0..nodes], &work[nodes..end], delta)
 }
 
-// Node i's key is brought up to date.
-fn refresh_key(n: u32, work: &[u32], tree: &mut [u32], delta: u64, i: u32)
-    requires { ⌜ (n ≤ 512) × (startsAt n ≤ length (now work)) × LowLabels (labelsPart n (now work)) × (length (now tree) ≡ 1024) × Node n i ⌝ }
-    ensures { λ _. ⌜ ((keys : ℕ → ℕ) → Tournament n keys (before tree)
-        → Tournament n (rekeyed keys i (key delta (excessPart n (before work)) (labelsPart n (before work)) i)) (after tree)) ⌝ }
+// The choice of the next step, after one at node i that may have changed another node j too, which had no key before.
+fn next_choice(n: u32, work: &[u32], tree: &mut [u32], delta: u64, i: u32, j: u32) -> Choice
+    requires { ⌜ (n ≤ 512) × (startsAt n ≤ length (now work)) × LowLabels (labelsPart n (now work)) × (length (now tree) ≡ 1024) ⌝ }
+    requires { ⌜ Node n i × Node n j × AllBut n (without (key delta (excessPart n (now work)) (labelsPart n (now work))) j) (now tree) i ⌝ }
+    ensures { λ r. ⌜ Chose n delta (excessPart n (before work)) (labelsPart n (before work)) (after tree) r ⌝ }
 {
     let nodes = n as usize;
     let end = nodes + nodes;
-    tournament::refresh(tree, &work[0..nodes], &work[nodes..end], delta, i);
+    tournament::choose_next(tree, &work[0..nodes], &work[nodes..end], delta, i, j)
+}
+
+// The far ends beside node i's list.
+fn node_ends<'a>(n: u32, work: &[u32], ends: &'a [u32], i: u32) -> &'a [u32]
+    requires { ⌜ ((t : Table) × InWork t (now work) × (t .nodes ≡ n) × Node n i × FarRow t (now ends)) ⌝ }
+    ensures { λ r. ⌜ ((t : Table) → InWork t (before work) → t .nodes ≡ n → FarRow t (before ends)
+        → (length (now r) ≡ length (list t i)) × FarEnds t i (list t i) (now r)) ⌝ }
+{
+    let nodes = n as usize;
+    let at = nodes + nodes;
+    let from = at + (at + 1);
+    arcs::list_part(&work[at..from], ends, i)
 }
 
 // The first eligible arc in node i's list, from where the list was looked through to.
@@ -75,14 +92,16 @@ fn search_list(
     capacities: &[u32],
     flow: &[u32],
     work: &[u32],
+    ends: &[u32],
     i: u32,
 ) -> Spot
     requires { ⌜ ArcRows n (now tails) (now heads) (now capacities) × WithinCapacities (now capacities) (now flow) × Node n i ⌝ }
     requires { ⌜ ((s t : ℕ) × InWork (givenTable n s t tails heads capacities) (now work)
-        × Looked (givenTable n s t tails heads capacities) (stateIn n (now flow) (now work)) (lookedPart n (now work))) ⌝ }
+        × Looked (givenTable n s t tails heads capacities) (stateIn n (now flow) (now work)) (lookedPart n (now work))
+        × FarRow (givenTable n s t tails heads capacities) (now ends)) ⌝ }
     ensures { λ r. ⌜ ((s t : ℕ) → (let table = lentTable n s t tails heads capacities in
         let state = stateBefore n flow work in
-        InWork table (before work) → Looked table state (lookedPart n (before work)) → SpotIs table state i (list table i) r)) ⌝ }
+        InWork table (before work) → FarRow table (before ends) → Looked table state (lookedPart n (before work)) → SpotIs table state i (list table i) r)) ⌝ }
 {
     let nodes = n as usize;
     let at = nodes + nodes;
@@ -90,11 +109,11 @@ fn search_list(
     let end = at + (at + 1);
     steps::search(
         tails,
-        heads,
         capacities,
         flow,
         &work[nodes..at],
         arcs::node_list(work, n, capacities.len(), i),
+        node_ends(n, work, ends, i),
         i,
         rows::at_node(&work[from..end], i),
     )
@@ -108,27 +127,29 @@ fn label_from_list(
     capacities: &[u32],
     flow: &[u32],
     work: &[u32],
+    ends: &[u32],
     i: u32,
 ) -> Lowest
     requires { ⌜ ArcRows n (now tails) (now heads) (now capacities) × WithinCapacities (now capacities) (now flow) × Node n i ⌝ }
-    requires { ⌜ ((s t : ℕ) × InWork (givenTable n s t tails heads capacities) (now work)) ⌝ }
+    requires { ⌜ ((s t : ℕ) × InWork (givenTable n s t tails heads capacities) (now work)
+        × FarRow (givenTable n s t tails heads capacities) (now ends)) ⌝ }
     ensures { λ r. ⌜ ((s t : ℕ) → (let table = lentTable n s t tails heads capacities in
-        InWork table (before work) → Relabels table (stateBefore n flow work) i r)) ⌝ }
+        InWork table (before work) → FarRow table (before ends) → Relabels table (stateBefore n flow work) i r)) ⌝ }
 {
     let nodes = n as usize;
     let end = nodes + nodes;
     steps::new_label(
         tails,
-        heads,
         capacities,
         flow,
         &work[nodes..end],
         arcs::node_list(work, n, capacities.len(), i),
+        node_ends(n, work, ends, i),
         i,
     )
 }
 
-// The push along place k away from node i, with the excess part lent; whether it is saturating.
+// The push along place k away from node i to its far end j, with the excess part lent; whether it is saturating.
 fn push_from(
     n: u32,
     s: u32,
@@ -141,11 +162,11 @@ fn push_from(
     delta: u64,
     i: u32,
     k: u32,
+    j: u32,
 ) -> bool
     requires { ⌜ ArcRows n (now tails) (now heads) (now capacities) × (startsAt n ≤ length (now work)) ⌝ }
     requires { ⌜ (let table = givenTable n s t tails heads capacities in
-        InPhase table delta (stateIn n (now flow) (now work)) × Node n i × (k < length (now capacities))
-        × (touching (now tails) (now heads) i k ≡ true)) ⌝ }
+        InPhase table delta (stateIn n (now flow) (now work)) × Node n i × (k < length (now capacities)) × (j ≡ far table i k)) ⌝ }
     ensures { λ r. ⌜ stateAfter n flow work ≡ push (lentTable n s t tails heads capacities) delta (stateBefore n flow work) i k ⌝ }
     ensures { λ r. ⌜ r ≡ saturates (lentTable n s t tails heads capacities) delta (stateBefore n flow work) i k ⌝ }
     ensures { λ r. ⌜ listsPart n (after work) ≡ listsPart n (before work) ⌝ }
@@ -153,7 +174,6 @@ fn push_from(
     let nodes = n as usize;
     steps::push(
         tails,
-        heads,
         capacities,
         flow,
         &mut work[0..nodes],
@@ -162,6 +182,7 @@ fn push_from(
         t,
         i,
         k,
+        j,
     )
 }
 
@@ -217,11 +238,13 @@ fn step(
     capacities: &[u32],
     flow: &mut [u32],
     work: &mut [u32],
+    ends: &[u32],
     delta: u64,
     i: u32,
     counts: Counts,
 ) -> Taken
-    requires { ⌜ ArcRows n (now tails) (now heads) (now capacities) × InWork (givenTable n s t tails heads capacities) (now work) ⌝ }
+    requires { ⌜ ArcRows n (now tails) (now heads) (now capacities) × InWork (givenTable n s t tails heads capacities) (now work)
+        × FarRow (givenTable n s t tails heads capacities) (now ends) ⌝ }
     requires { ⌜ InPhase (givenTable n s t tails heads capacities) delta (stateIn n (now flow) (now work)) × Node n i × (steps counts < 2 ^ 63) ⌝ }
     requires { ⌜ (let table = givenTable n s t tails heads capacities in
         let state = stateIn n (now flow) (now work) in
@@ -230,10 +253,22 @@ fn step(
         Stepped table delta (runBefore n flow work counts) i (runAfter n flow work (r .counts)) (lookedPart n (after work)) (r .other)) ⌝ }
     ensures { λ r. ⌜ SameLists n (before work) (after work) ⌝ }
 {
-    match search_list(n, tails, heads, capacities, flow, work, i) {
-        Spot::At(p, k) => {
-            let j = steps::far(tails, heads, i, k);
-            let full = push_from(n, s, t, tails, heads, capacities, flow, work, delta, i, k);
+    match search_list(n, tails, heads, capacities, flow, work, ends, i) {
+        Spot::At(p, k, j) => {
+            let full = push_from(
+                n,
+                s,
+                t,
+                tails,
+                heads,
+                capacities,
+                flow,
+                work,
+                delta,
+                i,
+                k,
+                j,
+            );
             set_looked(n, work, i, p);
             Taken {
                 counts: steps::count_push(counts, full),
@@ -241,7 +276,7 @@ fn step(
             }
         }
         Spot::End => {
-            let found = label_from_list(n, tails, heads, capacities, flow, work, i);
+            let found = label_from_list(n, tails, heads, capacities, flow, work, ends, i);
             let label = found.label;
             let at = found.at;
             set_label(n, work, i, label);
@@ -274,7 +309,7 @@ fn brought(t: u32, j: u32, had: u32, has: u32) -> u64
     0
 }
 
-// One step at the chosen node i, with the keys of the nodes that it changed brought up to date, and what it brought to the sink added.
+// One step at the chosen node i, with what it brought to the sink added, and the choice of the next one.
 fn turn(
     n: u32,
     s: u32,
@@ -285,19 +320,21 @@ fn turn(
     flow: &mut [u32],
     work: &mut [u32],
     tree: &mut [u32],
+    ends: &[u32],
     delta: u64,
     i: u32,
     tally: Tally,
-) -> Tally
-    requires { ⌜ ArcRows n (now tails) (now heads) (now capacities) × InWork (givenTable n s t tails heads capacities) (now work) ⌝ }
+) -> Turned
+    requires { ⌜ ArcRows n (now tails) (now heads) (now capacities) × InWork (givenTable n s t tails heads capacities) (now work)
+        × FarRow (givenTable n s t tails heads capacities) (now ends) ⌝ }
     requires { ⌜ (let table = givenTable n s t tails heads capacities in
         InPhase table delta (stateIn n (now flow) (now work)) × Node n i × (steps (tally .counts) < 2 ^ 63) × (tally .sink < 2 ^ 63)) ⌝ }
     requires { ⌜ (let table = givenTable n s t tails heads capacities in
         let state = stateIn n (now flow) (now work) in
-        ValidLabels table state × Ready table delta state (lookedPart n (now work)) (now tree)) ⌝ }
-    ensures { λ r. ⌜ runAfter n flow work (r .counts) ≡ step (lentTable n s t tails heads capacities) delta (runBefore n flow work (tally .counts)) i ⌝ }
-    ensures { λ r. ⌜ r .sink ≡ tally .sink + gain (lentTable n s t tails heads capacities) delta (stateBefore n flow work) i ⌝ }
-    ensures { λ r. ⌜ Ready (lentTable n s t tails heads capacities) delta (stateAfter n flow work) (lookedPart n (after work)) (after tree) ⌝ }
+        ValidLabels table state × Ready table delta state (lookedPart n (now work)) (now tree) (Choice.Node i)) ⌝ }
+    ensures { λ r. ⌜ runAfter n flow work (r .tally .counts) ≡ step (lentTable n s t tails heads capacities) delta (runBefore n flow work (tally .counts)) i ⌝ }
+    ensures { λ r. ⌜ r .tally .sink ≡ tally .sink + gain (lentTable n s t tails heads capacities) delta (stateBefore n flow work) i ⌝ }
+    ensures { λ r. ⌜ Ready (lentTable n s t tails heads capacities) delta (stateAfter n flow work) (lookedPart n (after work)) (after tree) (r .next) ⌝ }
     ensures { λ r. ⌜ SameLists n (before work) (after work) ⌝ }
 {
     let before = tally.counts;
@@ -311,18 +348,22 @@ fn turn(
         capacities,
         flow,
         work,
+        ends,
         delta,
         i,
         before,
     );
     let counts = done.counts;
     let other = done.other;
-    refresh_key(n, work, tree, delta, i);
-    refresh_key(n, work, tree, delta, other);
+    let next = next_choice(n, work, tree, delta, i, other);
     let has = excess_at(n, work, i);
-    Tally {
+    let sum = Tally {
         counts: counts,
         sink: tally.sink + brought(t, other, had, has),
+    };
+    Turned {
+        tally: sum,
+        next: next,
     }
 }
 
@@ -337,11 +378,12 @@ fn phase(
     flow: &mut [u32],
     work: &mut [u32],
     tree: &mut [u32],
+    ends: &[u32],
     delta: u64,
     tally: Tally,
     q: u64,
 ) -> Tally
-    requires { ⌜ (let table = givenTable n s t tails heads capacities in Accepted table × InWork table (now work)) ⌝ }
+    requires { ⌜ (let table = givenTable n s t tails heads capacities in Accepted table × InWork table (now work) × FarRow table (now ends)) ⌝ }
     requires { ⌜ (let table = givenTable n s t tails heads capacities in
         let run = runIn n (now flow) (now work) (tally .counts) in
         Between table delta run × Underway table q run (tally .sink)) ⌝ }
@@ -353,16 +395,16 @@ fn phase(
     ensures { λ r. ⌜ Looked (lentTable n s t tails heads capacities) (stateAfter n flow work) (lookedPart n (after work)) ⌝ }
     ensures { λ r. ⌜ SameLists n (before work) (after work) ⌝ }
 {
-    build_keys(n, work, tree, delta);
+    let mut next = first_choice(n, work, tree, delta);
     let mut taken = tally;
     loop {
         if q <= taken.sink {
             break;
         }
-        let Choice::Node(i) = tournament::choose_from(tree) else {
+        let Choice::Node(i) = next else {
             break;
         };
-        taken = turn(
+        let turned = turn(
             n,
             s,
             t,
@@ -372,10 +414,13 @@ fn phase(
             flow,
             work,
             tree,
+            ends,
             delta,
             i,
             taken,
         );
+        taken = turned.tally;
+        next = turned.next;
     }
     taken
 }
@@ -391,11 +436,12 @@ fn phases(
     flow: &mut [u32],
     work: &mut [u32],
     tree: &mut [u32],
+    ends: &[u32],
     count: u32,
     sink: u64,
     q: u64,
 ) -> Tally
-    requires { ⌜ (let table = givenTable n s t tails heads capacities in Accepted table × InWork table (now work)) ⌝ }
+    requires { ⌜ (let table = givenTable n s t tails heads capacities in Accepted table × InWork table (now work) × FarRow table (now ends)) ⌝ }
     requires { ⌜ (let table = givenTable n s t tails heads capacities in
         (stateIn n (now flow) (now work) ≡ start table) × (count ≡ phaseCount table) × (sink ≡ intoSink table (start table .flow))) ⌝ }
     requires { ⌜ (let table = givenTable n s t tails heads capacities in
@@ -429,6 +475,7 @@ fn phases(
             flow,
             work,
             tree,
+            ends,
             delta,
             tally,
             q,
@@ -471,6 +518,34 @@ fn count_phases(n: u32, work: &[u32]) -> u32
     start::phase_count(start::largest(&work[0..nodes]))
 }
 
+// The far ends of all lists that stand in the work row, at their entries' positions.
+fn fill_ends(
+    n: u32,
+    tails: &[u32],
+    heads: &[u32],
+    capacities: &[u32],
+    work: &[u32],
+    ends: &mut [u32],
+)
+    requires { ⌜ ArcRows n (now tails) (now heads) (now capacities) × (length (now ends) ≡ 8192) ⌝ }
+    requires { ⌜ ((s t : ℕ) × InWork (givenTable n s t tails heads capacities) (now work)) ⌝ }
+    ensures { λ _. ⌜ ((s t : ℕ) → (let table = lentTable n s t tails heads capacities in InWork table (before work) → FarRow table (after ends))) ⌝ }
+{
+    let mut p: usize = 0;
+    let mut i: u32 = 0;
+    while i < n {
+        i += 1;
+        p = steps::put_ends(
+            tails,
+            heads,
+            arcs::node_list(work, n, capacities.len(), i),
+            ends,
+            p,
+            i,
+        );
+    }
+}
+
 // How many numbers the work row needs.
 pub fn work_need(n: u32, m: usize) -> usize
     requires { ⌜ m < 2 ^ 61 ⌝ }
@@ -501,6 +576,8 @@ pub fn run_until(
     let d = start::scale(count);
     let sink = start::value(heads, tails, flow, t);
     let mut tree = [0u32; 1024];
+    let mut ends = [0u32; 8192];
+    fill_ends(n, tails, heads, capacities, work, &mut ends);
     let taken = phases(
         n,
         s,
@@ -511,6 +588,7 @@ pub fn run_until(
         flow,
         work,
         &mut tree,
+        &ends,
         count,
         sink,
         q,

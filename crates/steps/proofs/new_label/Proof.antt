@@ -1,5 +1,4 @@
 -- `new_label` meets its contract: one more than `least_far` from 2n.
-use lib.ListN.{length}
 use mathlib.Core.Path.{ap}
 use Prim.Native.Nat.{ℕ, _+_}
 use borrow.Author.Needs.{needs}
@@ -20,13 +19,11 @@ add-t11 c = search needs
 
 returns : tie.Need-returns
 returns c =
-    let start = c .before .before .before .before .before .before .before .before in
     let found = c .before .least-far .ensures in (
       found .0 .1,
-      (
-        λ s t excess. ap (λ (x : ℕ). x + 1) (found .1 .0 (length (start .args .labels .now)) s t excess),
-        λ n s t excess. found .1 .1 n s t excess,
-      ),
+      λ n s t heads excess ends-are.
+          let least = found .1 n s t heads excess ends-are in
+          (ap (λ (x : ℕ). x + 1) (least .0), least .1),
     )
 
 pub new-label-spec : {M : Type 1} → statement M

@@ -1,12 +1,12 @@
 -- `phase` meets its contract. The loop's invariant: the phase stands at a moment (`Going`), the lists are as they were, how far they were looked
--- through is right, and the tournament is that of the keys.
+-- through is right, the next choice is made, and the tournament is that of the other nodes' keys.
 use Prim.Native.Nat.{ℕ, _<_}
 use Rattle.table.specs.Table.{Table, tableOf}
 use Rattle.run.specs.Choice.{choose}
 use Rattle.run.specs.Phase.{Run}
 use Rattle.run.specs.declared.Choice.the-variants.{Node}
-use Rattle.tournament.specs.Tournament.{key, LowLabels, Tournament}
-use Rattle.arcs.specs.Work.{excessPart, labelsPart, lookedPart, SameLists, InWork}
+use Rattle.tournament.specs.Tournament.{LowLabels}
+use Rattle.arcs.specs.Work.{labelsPart, lookedPart, SameLists, InWork}
 use Rattle.arcs.proofs.Work.{length-labels, lists-on, lists-idle, in-work-kept}
 use Rattle.work.specs.Held.{stateIn, runIn, Ready}
 use Rattle.work.proofs.Stepping.{choice-is}
@@ -14,23 +14,24 @@ use Rattle.work.proofs.Advancing.{low-labels}
 use Rattle.work.proofs.Phasing.{left, amid-in-phase, amid-valid, amid-few, amid-node, amid-end}
 use Rattle.work.proofs.Going.{Going, going-first, going-small, going-step, going-less}
 use lib.ListN.{length}
+use mathlib.Core.List.{List}
 use native.Mathlib.Omega.{arith}
-use mathlib.Core.Path.{_≡_, refl, sym, _∙_, subst⁻¹}
+use mathlib.Core.Path.{_≡_, refl, sym, _∙_, subst}
 use borrow.Author.Needs.{needs}
 use Rattle.work.proofs.phase.Statement.{statement}
 use Rattle.work.proofs.phase.Tie as tie
 
 abbrev Inv-loop : tie.InvT-loop
-Inv-loop n s t tails heads capacities flow₀ work₀ tree₀ delta q taken₀ flow work tree taken =
+Inv-loop n s t tails heads capacities flow₀ work₀ tree₀ ends delta q next₀ taken₀ flow work tree next taken =
     Going (tableOf n s t tails heads capacities) q delta (runIn n flow₀ work₀ (taken₀ .counts)) (runIn n flow work (taken .counts)) (taken .sink)
     × SameLists n work₀ work
     × (length flow ≡ length flow₀)
     × (length work ≡ length work₀)
     × (length tree ≡ length tree₀)
-    × Ready (tableOf n s t tails heads capacities) delta (stateIn n flow work) (lookedPart n work) tree
+    × Ready (tableOf n s t tails heads capacities) delta (stateIn n flow work) (lookedPart n work) tree next
 
 abbrev μ-loop : tie.MeasureT-loop
-μ-loop n s t tails heads capacities flow₀ work₀ tree₀ delta q taken₀ flow work tree taken =
+μ-loop n s t tails heads capacities flow₀ work₀ tree₀ ends delta q next₀ taken₀ flow work tree next taken =
     left (tableOf n s t tails heads capacities) (runIn n flow₀ work₀ (taken₀ .counts)) (runIn n flow work (taken .counts))
 
 -- The table, and how the phase begins: its labels are low enough for keys.
@@ -52,7 +53,7 @@ module _ (start : tie.Start Inv-loop μ-loop) where
 -- The entry, the table, the run there and the run at a turn of the loop.
 module _ (c : tie.At-loop Inv-loop μ-loop) where
   abbrev begun : tie.Start Inv-loop μ-loop
-  begun = c .before .before .before .before .before .before .before .before .before .before .before .before
+  begun = c .before .before .before .before .before .before .before .before .before .before .before .before .before
 
   abbrev table : Table
   table = table-of begun
@@ -67,54 +68,52 @@ module _ (c : tie.At-loop Inv-loop μ-loop) where
   in-work : InWork table (c .loop .work)
   in-work = in-work-kept table (begun .args .work .now) (c .loop .work) (c .loop .inv .1) (sym (c .loop .inv .3)) (begun .pre .0 .1)
 
--- What the tournament answers is the choice.
-module _ (c : tie.After-choose-from Inv-loop μ-loop) where
-  abbrev turning : tie.At-loop Inv-loop μ-loop
-  turning = c .before .before .before .before
-
-  answer : c .choose-from .result ≡ choose (table turning) (begun turning .args .delta) (here turning .state)
-  answer =
-      let start = begun turning in
-      let few = start .pre .0 .0 .rows .ends .few-nodes in
-      let long = length-labels (start .args .n) (turning .loop .work) (omega (arith, in-work turning .room)) in
-      let excess = excessPart (start .args .n) (turning .loop .work) in
-      let labels = labelsPart (start .args .n) (turning .loop .work) in
-      let low = low-labels (table turning) (here turning .state) few long (amid-valid (table turning) (start .pre .0 .0) (start .args .delta) (first turning) (here turning) (turning .loop .inv .0 .amid)) in
-      choice-is (table turning) (start .args .delta) (here turning .state) (c .choose-from .result)
-      (c .choose-from .ensures (start .args .delta) excess labels (omega (arith, long)) low
-      (subst⁻¹ (λ (m : ℕ). Tournament m (key (start .args .delta) excess labels) (turning .loop .tree)) long (turning .loop .inv .5 .keys)) .0)
-      long
+  -- The next choice is that of the definitions.
+  answer : c .loop .next ≡ choose table (begun .args .delta) (here .state)
+  answer = choice-is table (begun .args .delta) (here .state) (c .loop .next) (c .loop .tree) (c .loop .inv .5 .chose)
 
 -- A node is chosen.
 module _ (c : tie.After-known-told Inv-loop μ-loop) where
   abbrev at : tie.At-loop Inv-loop μ-loop
-  at = c .before .before .before .before .before .before .before
+  at = c .before .before .before .before .before
 
   abbrev node : ℕ
-  node = c .before .i .given .0 .0
+  node = c .before .next .given .0 .0
+
+  is-node : at .loop .next ≡ Node node
+  is-node = c .before .next .given .1
 
   chosen : choose (table at) (begun at .args .delta) (here at .state) ≡ Node node
-  chosen = sym (answer (c .before .before .before)) ∙ c .before .i .given .1
+  chosen = sym (answer at) ∙ is-node
+
+  abbrev looked : List ℕ
+  looked = lookedPart (begun at .args .n) (at .loop .work)
+
+  ready : Ready (table at) (begun at .args .delta) (here at .state) looked (at .loop .tree) (Node node)
+  ready = subst (Ready (table at) (begun at .args .delta) (here at .state) looked (at .loop .tree)) is-node (at .loop .inv .5)
 
   -- q is not reached.
   below : at .loop .taken .sink < begun at .args .q
-  below = omega (arith, c .before .before .before .before .before .if1 .left)
+  below = omega (arith, c .before .before .before .if1 .left)
 
-build-keys-requires : tie.Need-build-keys-requires Inv-loop μ-loop
-build-keys-requires c κs =
-    let start = c .before .before .before .before .before .before .before .before in
+first-choice-requires : tie.Need-first-choice-requires Inv-loop μ-loop
+first-choice-requires c κs =
+    let start = c .before .before .before .before .before .before .before .before .before in
     (start .pre .0 .0 .rows .ends .few-nodes, omega (arith, start .pre .0 .1 .room), low-first start, start .pre .1 .1 .1)
 
 loop-holds : tie.Need-loop-holds Inv-loop μ-loop
 loop-holds c =
-    let start = c .before .before .before .before .before .before .before .before .before .before .before in
-    (begins start, lists-idle (start .args .n) (start .args .work .now), refl, refl, refl, record { lists = start .pre .1 .1 .0; keys = c .before .before .build-keys .ensures })
+    let start = c .before .before .before .before .before .before .before .before .before .before .before .before in (
+      begins start,
+      lists-idle (start .args .n) (start .args .work .now),
+      refl,
+      refl,
+      refl,
+      record { lists = start .pre .1 .1 .0; chose = c .before .before .first-choice .ensures },
+    )
 
-choose-from-requires : tie.Need-choose-from-requires Inv-loop μ-loop
-choose-from-requires c κs = c .before .before .before .loop .inv .5 .keys .size
-
-enum-known-i : tie.Need-enum-known-i Inv-loop μ-loop
-enum-known-i c = search needs
+enum-known-next : tie.Need-enum-known-next Inv-loop μ-loop
+enum-known-next c = search needs
 
 enum-told : tie.Need-enum-told Inv-loop μ-loop
 enum-told c = search needs
@@ -126,7 +125,7 @@ turn-requires c κs =
     let start = begun m in
     let ok = start .pre .0 .0 in
     let amid = m .loop .inv .0 .amid in (
-      (ok .rows, in-work m),
+      (ok .rows, in-work m, start .pre .0 .2),
       (
         (
           amid-in-phase (table m) ok (start .args .delta) (first m) (here m) amid,
@@ -134,25 +133,25 @@ turn-requires c κs =
           omega (arith, amid-few (table m) ok (start .args .delta) (first m) (here m) amid),
           going-small (table m) ok (start .args .q) (start .args .delta) (first m) (here m) (m .loop .taken .sink) (m .loop .inv .0),
         ),
-        (amid-valid (table m) ok (start .args .delta) (first m) (here m) amid, m .loop .inv .5),
+        (amid-valid (table m) ok (start .args .delta) (first m) (here m) amid, ready told),
       ),
     )
 
 loop-less : tie.Need-loop-less Inv-loop μ-loop
 loop-less c =
-    let turned = c .before .before .before .before .before .before in
+    let turned = c .before .before .before .before .before .before .before in
     let told = turned .before .before .before .before in
     let m = at told in
     going-less (table m) (begun m .pre .0 .0) (begun m .args .q) (begun m .args .delta) (first m) (here m) (m .loop .taken .sink) (m .loop .inv .0) (node told) (chosen told) _ (turned .turn .ensures .0)
 
 loop-again : tie.Need-loop-again Inv-loop μ-loop
 loop-again c =
-    let turned = c .before .before .before .before .before .before in
+    let turned = c .before .before .before .before .before .before .before in
     let told = turned .before .before .before .before in
     let m = at told in
     let inv = m .loop .inv in (
-      going-step (table m) (begun m .pre .0 .0) (begun m .args .q) (begun m .args .delta) (first m) (here m) (m .loop .taken .sink) (inv .0) (below told) (node told) (chosen told) _ (turned .turn .result .sink)
-          (turned .turn .ensures .0) (turned .turn .ensures .1 .0),
+      going-step (table m) (begun m .pre .0 .0) (begun m .args .q) (begun m .args .delta) (first m) (here m) (m .loop .taken .sink) (inv .0) (below told)
+          (node told) (chosen told) _ (turned .turn .result .tally .sink) (turned .turn .ensures .0) (turned .turn .ensures .1 .0),
       lists-on (inv .1) (turned .turn .ensures .1 .1 .1),
       turned .turn .kept .1 .1 .1 .1 .1 .1 .0 ∙ inv .2,
       turned .turn .kept .1 .1 .1 .1 .1 .1 .1 .0 ∙ inv .3,
@@ -167,7 +166,7 @@ same-length-2 : tie.Need-same-length-2 Inv-loop μ-loop
 same-length-2 c = c .before .before .loop .inv .3
 
 same-length-3 : tie.Need-same-length-3 Inv-loop μ-loop
-same-length-3 c = c .before .before .loop .inv .4 ∙ c .before .before .before .before .before .build-keys .kept .1 .1 .0
+same-length-3 c = c .before .before .loop .inv .4 ∙ c .before .before .before .before .before .first-choice .kept .1 .1 .0
 
 returns : tie.Need-returns Inv-loop μ-loop
 returns c =
@@ -175,22 +174,21 @@ returns c =
     (inv .0 .under, (λ below. absurd (omega (arith, c .if1 .taken, below)), (inv .5 .lists, inv .1)))
 
 same-length-4 : tie.Need-same-length-4 Inv-loop μ-loop
-same-length-4 c = c .before .before .before .before .before .before .loop .inv .2
+same-length-4 c = c .before .before .before .before .loop .inv .2
 
 same-length-5 : tie.Need-same-length-5 Inv-loop μ-loop
-same-length-5 c = c .before .before .before .before .before .before .loop .inv .3
+same-length-5 c = c .before .before .before .before .loop .inv .3
 
 same-length-6 : tie.Need-same-length-6 Inv-loop μ-loop
-same-length-6 c = c .before .before .before .before .before .before .loop .inv .4 ∙ c .before .before .before .before .before .before .before .before .before .build-keys .kept .1 .1 .0
+same-length-6 c = c .before .before .before .before .loop .inv .4 ∙ c .before .before .before .before .before .before .before .first-choice .kept .1 .1 .0
 
 returns-2 : tie.Need-returns-2 Inv-loop μ-loop
 returns-2 c =
-    let asked = c .before .before in
-    let m = asked .before .before .before .before in
+    let m = c .before .before .before .before in
     let start = begun m in (
       m .loop .inv .0 .under,
       (
-        λ _. amid-end (table m) (start .pre .0 .0) (start .args .delta) (first m) (here m) (m .loop .inv .0 .amid) (sym (answer asked) ∙ c .enum-told .given .1),
+        λ _. amid-end (table m) (start .pre .0 .0) (start .args .delta) (first m) (here m) (m .loop .inv .0 .amid) (sym (answer m) ∙ c .enum-told .given .1),
         (m .loop .inv .5 .lists, m .loop .inv .1),
       ),
     )
@@ -201,10 +199,9 @@ phase-spec =
     (tie.spec
     Inv-loop
     μ-loop
-    build-keys-requires
+    first-choice-requires
     loop-holds
-    choose-from-requires
-    enum-known-i
+    enum-known-next
     enum-told
     turn-requires
     loop-less

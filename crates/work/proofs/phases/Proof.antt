@@ -18,7 +18,7 @@ use Rattle.work.proofs.phases.Statement.{statement}
 use Rattle.work.proofs.phases.Tie as tie
 
 abbrev Inv-loop : tie.InvT-loop
-Inv-loop n s t tails heads capacities flow₀ work₀ tree₀ count sink q tally₀ done₀ delta₀ flow work tree tally done delta =
+Inv-loop n s t tails heads capacities flow₀ work₀ tree₀ ends count sink q tally₀ done₀ delta₀ flow work tree tally done delta =
     (done ≤ count)
     × (delta ≡ deltaAfter (tableOf n s t tails heads capacities) done)
     × Underway (tableOf n s t tails heads capacities) q (runIn n flow work (tally .counts)) (tally .sink)
@@ -30,12 +30,12 @@ Inv-loop n s t tails heads capacities flow₀ work₀ tree₀ count sink q tally
     × Looked (tableOf n s t tails heads capacities) (stateIn n flow work) (lookedPart n work)
 
 abbrev μ-loop : tie.MeasureT-loop
-μ-loop n s t tails heads capacities flow₀ work₀ tree₀ count sink q tally₀ done₀ delta₀ flow work tree tally done delta = count - done
+μ-loop n s t tails heads capacities flow₀ work₀ tree₀ ends count sink q tally₀ done₀ delta₀ flow work tree tally done delta = count - done
 
 -- The entry and the table, of a turn of the loop.
 module _ (c : tie.At-loop Inv-loop μ-loop) where
   abbrev begun : tie.Start Inv-loop μ-loop
-  begun = c .before .before .before .before .before .before .before .before
+  begun = c .before .before .before .before .before .before .before .before .before
 
   abbrev table : Table
   table = tableOf (begun .args .n) (begun .args .s) (begun .args .t) (begun .args .tails .now) (begun .args .heads .now) (begun .args .capacities .now)
@@ -52,12 +52,12 @@ module _ (c : tie.At-loop Inv-loop μ-loop) where
 
 scale-requires : tie.Need-scale-requires Inv-loop μ-loop
 scale-requires c κs =
-    let start = c .before .before .before .before .before .before in
+    let start = c .before .before .before .before .before .before .before in
     omega (arith, start .pre .1 .0 .1, phases-bound _ (start .pre .0 .0))
 
 loop-holds : tie.Need-loop-holds Inv-loop μ-loop
 loop-holds c =
-    let start = c .before .before .before .before .before .before .before in
+    let start = c .before .before .before .before .before .before .before .before in
     let given = start .args in
     let T = tableOf (given .n) (given .s) (given .t) (given .tails .now) (given .heads .now) (given .capacities .now) in
     let first = first-run T (start .pre .1 .0 .0) in (
@@ -78,7 +78,7 @@ phase-requires c κs =
     let start = begun m in
     let inv = m .loop .inv in
     let here-is = inv .3 (omega (arith, c .before .before .before .if1 .left)) in (
-      (start .pre .0 .0, in-work-kept (table m) (start .args .work .now) (m .loop .work) (inv .4) (sym (inv .6)) (start .pre .0 .1)),
+      (start .pre .0 .0, in-work-kept (table m) (start .args .work .now) (m .loop .work) (inv .4) (sym (inv .6)) (start .pre .0 .1), start .pre .0 .2),
       (
         (record { done = m .loop .done; more = omega (arith, c .before .before .before .before .before .loop-test .taken, start .pre .1 .0 .1); delta-is = inv .1; run-is = here-is }, inv .2),
         (inv .8, inv .7 ∙ start .pre .1 .1 .1),

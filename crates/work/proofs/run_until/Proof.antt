@@ -90,12 +90,24 @@ value-requires c κs =
       start-sums (table m) (begun m .pre .0) (flow m) (flow-is m),
     )
 
+slice-aggregate-fill-ends : tie.Need-slice-aggregate-fill-ends
+slice-aggregate-fill-ends c = search needs
+
+fill-ends-requires : tie.Need-fill-ends-requires
+fill-ends-requires c κs =
+    let m = c .before .before .before .before .before .before .before .before .before in
+    ((begun m .pre .0 .rows, search needs), (begun m .args .s, begun m .args .t, in-work m))
+
 slice-aggregate-phases : tie.Need-slice-aggregate-phases
 slice-aggregate-phases c = search needs
 
+slice-aggregate-phases-2 : tie.Need-slice-aggregate-phases-2
+slice-aggregate-phases-2 c = search needs
+
 phases-requires : tie.Need-phases-requires
 phases-requires c κs =
-    let valued = c .before .before .before in
+    let filled = c .before .before .before .before .before in
+    let valued = filled .before .before .before in
     let counted = valued .before .before .before in
     let m = counted .before .before .before .before in
     let given = begun m .args in
@@ -104,22 +116,30 @@ phases-requires c κs =
     valued .value .ensures (given .n) (given .n) (given .capacities .now) (rows .capacities-long ∙ sym (rows .ends .heads-long))
     ∙ exchanged (given .n) (given .s) (given .t) (given .n) (given .tails .now) (given .heads .now) (given .capacities .now) (flow m)
     ∙ ap (intoSink (table m)) (flow-is m) in
-    ((begun m .pre .0, in-work m), ((state-is m, count-is counted, sink-is), (looked m, search needs)))
+    ((begun m .pre .0, in-work m, filled .fill-ends .ensures (given .s) (given .t) (in-work m)), ((state-is m, count-is counted, sink-is), (looked m, search needs)))
+
+-- The phases are over: what they left, and what held before them.
+module _ (c : tie.After-counts) where
+  abbrev phased : tie.After-phases
+  phased = c .before .before .before .before .before .before
+
+  abbrev scaled : tie.After-scale
+  scaled = phased .before .before .before .before .before .before .before .before .before .before .before
+
+  abbrev cleared : tie.After-clear-looked
+  cleared = scaled .before .before .before .before .before
 
 same-length : tie.Need-same-length
-same-length c = search needs
+same-length c = phased c .phases .kept .1 .1 .1 .1 .1 .1 .0 ∙ started (cleared c) .begin .kept .1 .1 .1 .1 .1 .1 .0
 
 same-length-2 : tie.Need-same-length-2
-same-length-2 c = search needs
+same-length-2 c = phased c .phases .kept .1 .1 .1 .1 .1 .1 .1 .0 ∙ cleared c .clear-looked .kept .1 .0 ∙ started (cleared c) .begin .kept .1 .1 .1 .1 .1 .1 .1 .0
 
 returns : tie.Need-returns
 returns c =
-    let phased = c .before .before .before .before .before .before in
-    let scaled = phased .before .before .before .before .before .before in
-    let counted = scaled .before in
-    let m = counted .before .before .before .before in
-    let told = phased .phases .ensures in
-    ran-until (table m) (begun m .args .q) (begun m .args .n) (begun m .args .work .now) _ _ _ (told .0) (told .1 .0) (count-is counted) (scaled .scale .ensures) (lists-on (lists m) (told .1 .1))
+    let m = cleared c in
+    let told = phased c .phases .ensures in
+    ran-until (table m) (begun m .args .q) (begun m .args .n) (begun m .args .work .now) _ _ _ (told .0) (told .1 .0) (count-is (scaled c .before)) (scaled c .scale .ensures) (lists-on (lists m) (told .1 .1))
 
 pub run-until-spec : {M : Type 1} → statement M
 run-until-spec =
@@ -130,7 +150,10 @@ run-until-spec =
     count-phases-requires
     scale-requires
     value-requires
+    slice-aggregate-fill-ends
+    fill-ends-requires
     slice-aggregate-phases
+    slice-aggregate-phases-2
     phases-requires
     same-length
     same-length-2
