@@ -1,4 +1,5 @@
 pub mod Walking
 pub mod Places
 pub mod Pouring
+pub mod Rising
 pub mod Extending

@@ -23,7 +23,7 @@ use Rattle.shortest.specs.Rows.{rowWays, Rows}
 use Rattle.shortest.proofs.Ends.{Ends, leads-within}
 use Rattle.shortest.proofs.Laying.{set-there, set-elsewhere, distances-right}
 use Rattle.shortest.proofs.Chains.{LowestIs, lowest-is, found-leads}
-use Rattle.augment.specs.Walks.{Noted, Known, Walked}
+use Rattle.augment.specs.Walks.{NoneBelow, Noted, Known, Walked}
 use Rattle.augment.proofs.Pouring.{far-picked}
 
 -- ---- `far_of` and `leads`: away from the tail, away from the head, or neither
@@ -253,7 +253,12 @@ least-of N flow row valid small (suc d) i l e =
     let within = ltb-true (next (waysIn N flow) row d i) (N .m) found in
     least-from N flow 4294967295 i (next (waysIn N flow) row d i) _ (omega (arith, residual-most N flow valid i (next (waysIn N flow) row d i) within, small (next (waysIn N flow) row d i)))
 
--- At label 0 the whole chain is there.
+-- At label 0 the walk has arrived,
+pub walking-there : {N : Network} {flow row chain₀ lowest far chain : List ℕ} {i d least p : ℕ} → Walking N flow row chain₀ lowest far chain i d least p → d ≡ 0
+    → arrives (waysIn N flow) row (atNode row (N .s)) (N .s) ≡ true
+walking-there {N} {flow} {row} {chain₀} {lowest} {far} {chain} {i} {d} so z = sym (so .on) ∙ arrives-there (waysIn N flow) row d i z
+
+-- and the whole chain is there.
 pub walking-done : {N : Network} {flow row chain₀ lowest far chain : List ℕ} {i d least p : ℕ} → Walking N flow row chain₀ lowest far chain i d least p → d ≡ 0
     → Flow N (atPlace flow) → ((k : ℕ) → N .capacity k ≤ 4294967295) → 0 < atNode row (N .s) → Walked N flow row lowest far chain least
 walking-done {N} {flow} {row} {chain₀} {lowest} {far} {chain} {i} {d} {least} {p} so z valid small away =
@@ -267,7 +272,7 @@ walking-done {N} {flow} {row} {chain₀} {lowest} {far} {chain} {i} {d} {least} 
     count = omega (arith, so .count)
 
     there : arrives (waysIn N flow) row (atNode row (N .s)) (N .s) ≡ true
-    there = sym (so .on) ∙ arrives-there (waysIn N flow) row d i z
+    there = walking-there so z
 
     all : least ≡ leastWith N flow least i (chainFrom (waysIn N flow) row d i)
     all = least-none N flow row d least i z
@@ -288,6 +293,13 @@ module _ {w : Ways} {n : ℕ} {row lowest far : List ℕ} (noted : Noted w n row
         (λ p less. noted .none-lower i d p hi (at ∙ add-one d) (omega (arith, node-at lowest i (hi .0))) (omega (arith, node-at lowest i (hi .0)))),
         inl (here, leads),
       )
+
+  -- none below it does,
+  pub noted-none : {from : ℕ} → ((p : ℕ) → p < from → (p < k) × (k < w .places)) → k ≡ getD lowest (i - 1) 0 → NoneBelow w row d i from
+  noted-none below is p l =
+      let (less, here) = below p l in
+      let same = node-at lowest i (hi .0) in
+      noted .none-lower i d p hi (at ∙ add-one d) (omega (arith, same, less, here)) (omega (arith, same, less, here))
 
   -- and its far end stands beside it.
   pub noted-far : k ≡ getD lowest (i - 1) 0 → k < w .places → atNode far i ≡ otherEnd w i k

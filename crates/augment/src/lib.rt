@@ -1,7 +1,8 @@
 // Going on from a flow along chains of fewest residual arcs, each filled by its least residual, until the sink can't be reached.
-ghost use Prim.Native.Nat.{_+_, _-_, _≤_, _<_, min};
+ghost use Prim.Native.Nat.{ℕ, _+_, _-_, _≤_, _<_, min};
 ghost use mathlib.Core.Path.{_≡_};
 ghost use mathlib.Core.Bool.{cond};
+ghost use mathlib.Core.Logic.{_⊎_};
 ghost use lib.ListN.{length, getD, set, replicate};
 ghost use lib.Dec.{eqb};
 ghost use Rattle.rows.specs.Lent.{before, after};
@@ -10,7 +11,7 @@ ghost use Rattle.arcs.specs.Work.{InWork};
 ghost use Rattle.shortest.specs.Ways.{otherEnd};
 ghost use Rattle.shortest.specs.Distance.{leadsBy, leadsTo, distances, next};
 ghost use Rattle.measuring.specs.Visits.{ListOf};
-ghost use Rattle.augment.specs.Walks.{Noted, Known, Walked, Found};
+ghost use Rattle.augment.specs.Walks.{NoneBelow, Noted, Known, Walked, DeadEnd, Labelled, RiseOver, Rise, Relabelled, Attempted, Found};
 ghost use Rattle.shortest.specs.Augment.{filled, Fits, settled};
 ghost use Rattle.shortest.specs.Rows.{rowWays, givenWays, lentWays, givenNetwork, lentNetwork, endsOf, Rows, Ready, Extended};
 
@@ -61,7 +62,30 @@ fn leads_at(
     )
 }
 
-// The lowest place that leads from node i to a node with the label d, by node i's list, or the number of places.
+// The same of the place k where none below `from` may: such a place needs no look at its arc.
+fn leads_past(
+    tails: &[u32],
+    heads: &[u32],
+    capacities: &[u32],
+    minimums: &[u32],
+    flow: &[u32],
+    dist: &[u32],
+    d: u32,
+    i: u32,
+    from: usize,
+    k: usize,
+) -> bool
+    requires { ⌜ Rows (length (now dist)) (now tails) (now heads) (now capacities) (now minimums) (now flow) × (k < length (now capacities)) ⌝ }
+    requires { ⌜ NoneBelow (givenWays tails heads capacities minimums flow) (now dist) d i from ⌝ }
+    ensures { λ r. ⌜ r ≡ leadsTo (lentWays tails heads capacities minimums flow) (before dist) d i k ⌝ }
+{
+    if k < from {
+        return false;
+    }
+    leads_at(tails, heads, capacities, minimums, flow, dist, d, i, k)
+}
+
+// The lowest place that leads from node i to a node with the label d, by node i's list, or the number of places; none below `from` does.
 fn next_place(
     tails: &[u32],
     heads: &[u32],
@@ -72,15 +96,28 @@ fn next_place(
     dist: &[u32],
     d: u32,
     i: u32,
+    from: usize,
 ) -> usize
     requires { ⌜ Rows (length (now dist)) (now tails) (now heads) (now capacities) (now minimums) (now flow) ⌝ }
     requires { ⌜ ListOf (givenWays tails heads capacities minimums flow) i (now list) ⌝ }
+    requires { ⌜ NoneBelow (givenWays tails heads capacities minimums flow) (now dist) d i from ⌝ }
     ensures { λ r. ⌜ r ≡ next (lentWays tails heads capacities minimums flow) (before dist) d i ⌝ }
 {
     let mut p = 0;
     while p < list.len() {
         let k = list[p] as usize;
-        if leads_at(tails, heads, capacities, minimums, flow, dist, d, i, k) {
+        if leads_past(
+            tails,
+            heads,
+            capacities,
+            minimums,
+            flow,
+            dist,
+            d,
+            i,
+            from,
+            k,
+        ) {
             return k;
         }
         p += 1;
@@ -126,8 +163,18 @@ fn far_at(tails: &[u32], heads: &[u32], i: u32, k: usize) -> u32
     far_of(i, tails[k], heads[k])
 }
 
+// The place noted for a node where it is one of m, else 0.
+fn noted_of(noted: usize, m: usize) -> usize
+    ensures { λ r. ⌜ ((k : ℕ) → k < r → (k < noted) × (noted < m)) ⌝ }
+{
+    if noted < m {
+        return noted;
+    }
+    0
+}
+
 // The lowest place that leads from node i to a node with the label d, or the number of places: the one noted for node i where it leads there still,
-// else by node i's list, and then noted with its far end.
+// else by node i's list from there on, and then noted with its far end.
 fn leave_by(
     tails: &[u32],
     heads: &[u32],
@@ -158,7 +205,19 @@ fn leave_by(
         }
     }
     let list = arcs::node_list(work, n, capacities.len(), i);
-    let k = next_place(tails, heads, capacities, minimums, flow, list, dist, d, i);
+    let from = noted_of(noted, capacities.len());
+    let k = next_place(
+        tails,
+        heads,
+        capacities,
+        minimums,
+        flow,
+        list,
+        dist,
+        d,
+        i,
+        from,
+    );
     lowest[at] = k as u32;
     if capacities.len() <= k {
         return k;
@@ -177,8 +236,13 @@ pub fn lesser(a: u32, b: u32) -> u32
     b
 }
 
-// The chain from the source by the labels, at each node by the lowest place that leads one nearer, into the first places of `chain`;
-// its least residual, or 0 where it does not arrive.
+// How a walk ended: the least residual of its chain, or 0 where it did not arrive; and the node where it ended.
+struct Outcome {
+    least: u32,
+    end: u32,
+}
+
+// The chain from the source by the labels, at each node by the lowest place that leads one nearer, into the first places of `chain`.
 fn walk(
     tails: &[u32],
     heads: &[u32],
@@ -193,12 +257,14 @@ fn walk(
     lowest: &mut [u32],
     far: &mut [u32],
     chain: &mut [u32],
-) -> u32
+) -> Outcome
     requires { ⌜ Ready n s t (now tails) (now heads) (now capacities) (now minimums) (now flow) ⌝ }
     requires { ⌜ InWork (endsOf n (now tails) (now heads) (now capacities)) (now work) ⌝ }
     requires { ⌜ (length (now lowest) ≡ n) × (length (now far) ≡ n) × (n ≤ length (now chain)) ⌝ }
     requires { ⌜ Known (givenWays tails heads capacities minimums flow) n t (now dist) (now lowest) (now far) ⌝ }
-    ensures { λ r. ⌜ Walked (lentNetwork n s t tails heads capacities minimums) (before flow) (before dist) (after lowest) (after far) (after chain) r ⌝ }
+    ensures walked { λ r. ⌜ (let network = lentNetwork n s t tails heads capacities minimums in
+        Walked network (before flow) (before dist) (after lowest) (after far) (after chain) (r .least)) ⌝ }
+    ensures dead_end { λ r. ⌜ DeadEnd n (before dist) (r .least) (r .end) ⌝ }
 {
     let mut i = s;
     let mut d = dist[(s - 1) as usize];
@@ -222,14 +288,17 @@ fn walk(
             far,
         );
         if capacities.len() <= k {
-            return 0;
+            return Outcome { least: 0, end: i };
         }
         chain[p] = k as u32;
         least = lesser(least, residual_at(tails, capacities, minimums, flow, i, k));
         i = far[at];
         p += 1;
     }
-    least
+    Outcome {
+        least: least,
+        end: i,
+    }
 }
 
 // Moves d over the arc at place k away from node i.
@@ -309,9 +378,166 @@ fn measure_anew(
     measuring::reset(lowest, capacities.len() as u32);
 }
 
+// One above node j's label where the way to it may be walked, else `none`.
+fn one_above(dist: &[u32], j: u32, may: bool, none: u32) -> u32
+    requires { ⌜ Node (length (now dist)) j × (atNode (now dist) j ≤ 514) ⌝ }
+    ensures { λ r. ⌜ r ≡ cond may (atNode (before dist) j + 1) none ⌝ }
+{
+    if !may {
+        return none;
+    }
+    dist[(j - 1) as usize] + 1
+}
+
+// To what node i's label may rise as far as the arc at place k goes, one of node i's: one above its far end's label where it may be walked, else n.
+fn rise_over(
+    tails: &[u32],
+    heads: &[u32],
+    capacities: &[u32],
+    minimums: &[u32],
+    flow: &[u32],
+    dist: &[u32],
+    n: u32,
+    i: u32,
+    k: usize,
+) -> u32
+    requires { ⌜ Rows n (now tails) (now heads) (now capacities) (now minimums) (now flow) ⌝ }
+    requires { ⌜ Labelled (givenWays tails heads capacities minimums flow) n (now dist) × Node n i ⌝ }
+    requires { ⌜ (k < length (now capacities)) × ((getD (now tails) k 0 ≡ i) ⊎ (getD (now heads) k 0 ≡ i)) ⌝ }
+    ensures { λ r. ⌜ RiseOver (lentWays tails heads capacities minimums flow) (before dist) i k r ⌝ }
+{
+    let f = flow[k];
+    let tail = tails[k];
+    if tail == i {
+        return one_above(dist, heads[k], f < capacities[k], n);
+    }
+    one_above(dist, tail, minimums[k] < f, n)
+}
+
+// To what node i's label may rise, by node i's list: one above the least label of the far ends of its open arcs, at most n.
+fn rise_to(
+    tails: &[u32],
+    heads: &[u32],
+    capacities: &[u32],
+    minimums: &[u32],
+    flow: &[u32],
+    list: &[u32],
+    dist: &[u32],
+    n: u32,
+    i: u32,
+) -> u32
+    requires { ⌜ Rows n (now tails) (now heads) (now capacities) (now minimums) (now flow) ⌝ }
+    requires { ⌜ Labelled (givenWays tails heads capacities minimums flow) n (now dist) × Node n i ⌝ }
+    requires { ⌜ ListOf (givenWays tails heads capacities minimums flow) i (now list) ⌝ }
+    ensures { λ r. ⌜ Rise (lentWays tails heads capacities minimums flow) n (before dist) i r ⌝ }
+{
+    let mut least = n;
+    let mut p = 0;
+    while p < list.len() {
+        let over = rise_over(
+            tails,
+            heads,
+            capacities,
+            minimums,
+            flow,
+            dist,
+            n,
+            i,
+            list[p] as usize,
+        );
+        least = lesser(least, over);
+        p += 1;
+    }
+    least
+}
+
+// Raises node i's label as far as its open arcs let it, and forgets the place noted for it.
+fn relabel(
+    tails: &[u32],
+    heads: &[u32],
+    capacities: &[u32],
+    minimums: &[u32],
+    flow: &[u32],
+    work: &[u32],
+    n: u32,
+    i: u32,
+    dist: &mut [u32],
+    lowest: &mut [u32],
+)
+    requires { ⌜ Rows n (now tails) (now heads) (now capacities) (now minimums) (now flow) ⌝ }
+    requires { ⌜ InWork (endsOf n (now tails) (now heads) (now capacities)) (now work) ⌝ }
+    requires { ⌜ Labelled (givenWays tails heads capacities minimums flow) n (now dist) × Node n i × (length (now lowest) ≡ n) ⌝ }
+    ensures { λ _. ⌜ Relabelled (lentWays tails heads capacities minimums flow) n i (before dist) (before lowest) (after dist) (after lowest) ⌝ }
+{
+    let list = arcs::node_list(work, n, capacities.len(), i);
+    let label = rise_to(tails, heads, capacities, minimums, flow, list, dist, n, i);
+    let at = (i - 1) as usize;
+    dist[at] = label;
+    lowest[at] = capacities.len() as u32;
+}
+
+// Walks once: the least residual of the chain to fill; or 0, and the node where the walk ended is relabelled.
+fn attempt(
+    tails: &[u32],
+    heads: &[u32],
+    capacities: &[u32],
+    minimums: &[u32],
+    n: u32,
+    s: u32,
+    t: u32,
+    flow: &[u32],
+    work: &[u32],
+    dist: &mut [u32],
+    lowest: &mut [u32],
+    far: &mut [u32],
+    chain: &mut [u32],
+) -> u32
+    requires { ⌜ Ready n s t (now tails) (now heads) (now capacities) (now minimums) (now flow) ⌝ }
+    requires { ⌜ InWork (endsOf n (now tails) (now heads) (now capacities)) (now work) ⌝ }
+    requires { ⌜ (length (now lowest) ≡ n) × (length (now far) ≡ n) × (n ≤ length (now chain)) ⌝ }
+    requires { ⌜ Known (givenWays tails heads capacities minimums flow) n t (now dist) (now lowest) (now far) ⌝ }
+    ensures { λ r. ⌜ (let network = lentNetwork n s t tails heads capacities minimums in
+        Attempted network (before flow) (after dist) (after lowest) (after far) (after chain) r) ⌝ }
+{
+    let walked = walk(
+        tails,
+        heads,
+        capacities,
+        minimums,
+        n,
+        s,
+        t,
+        flow,
+        work,
+        dist,
+        lowest,
+        far,
+        chain,
+    );
+    let least = walked.least;
+    if 0 < least {
+        return least;
+    }
+    let end = walked.end;
+    relabel(
+        tails,
+        heads,
+        capacities,
+        minimums,
+        flow,
+        work,
+        n,
+        end,
+        dist,
+        lowest,
+    );
+    0
+}
+
 // Finds the chain to fill, the first of those of fewest residual arcs by its places: its least residual, or 0 where there is none.
 // Its places stand first in `chain`, as many as the source's label.
-// Labels that lead nowhere are measured anew; the chain's row serves the measuring before.
+// After each walk that does not arrive a label rises: there is none once the source's is n, and after 16 walks all are measured anew. The chain's row serves the
+// measuring before.
 fn find(
     tails: &[u32],
     heads: &[u32],
@@ -333,23 +559,30 @@ fn find(
     requires { ⌜ Known (givenWays tails heads capacities minimums flow) n t (now dist) (now lowest) (now far) ⌝ }
     ensures { λ r. ⌜ Found (lentNetwork n s t tails heads capacities minimums) (before flow) (after dist) (after lowest) (after far) (after chain) r ⌝ }
 {
-    let least = walk(
-        tails,
-        heads,
-        capacities,
-        minimums,
-        n,
-        s,
-        t,
-        flow,
-        work,
-        dist,
-        lowest,
-        far,
-        chain,
-    );
-    if 0 < least {
-        return least;
+    let mut left = 16u32;
+    while 0 < left {
+        let least = attempt(
+            tails,
+            heads,
+            capacities,
+            minimums,
+            n,
+            s,
+            t,
+            flow,
+            work,
+            dist,
+            lowest,
+            far,
+            chain,
+        );
+        if 0 < least {
+            return least;
+        }
+        if n <= dist[(s - 1) as usize] {
+            return 0;
+        }
+        left -= 1;
     }
     measure_anew(
         tails,
@@ -364,7 +597,7 @@ fn find(
         dist,
         lowest,
     );
-    walk(
+    let walked = walk(
         tails,
         heads,
         capacities,
@@ -378,7 +611,8 @@ fn find(
         lowest,
         far,
         chain,
-    )
+    );
+    walked.least
 }
 
 // Fills one chain of fewest residual arcs, the first of them by its places, by its least residual; says whether there was one.

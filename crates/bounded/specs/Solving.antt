@@ -18,14 +18,13 @@ pub record Solvable (b : BoundedTable) (flow side : List ℕ) : Type 0 where
   pub flow-long : arcs (b .table) ≤ length flow
   pub side-long : b .table .nodes ≤ length side
 
--- Rows of the call's own, with a place for each arc, or for each of the joined network's; `none` is empty, and `lists` has room for the lists of either.
-pub record OwnRows (m size : ℕ) (from to limits none met more lists : List ℕ) : Type 0 where
+-- Rows of the call's own, with a place for each arc of the joined network; `none` and `more` are zeros, and `lists` has room for its lists and the table's.
+pub record OwnRows (size : ℕ) (from to limits none more lists : List ℕ) : Type 0 where
   pub from-long : length from ≡ size
   pub to-long : length to ≡ size
   pub limits-long : length limits ≡ size
   pub none-empty : none ≡ replicate size 0
-  pub met-long : length met ≡ m
-  pub more-long : length more ≡ size
+  pub more-empty : more ≡ replicate size 0
   pub lists-long : workEnd 514 5122 ≤ length lists
 
 -- Two rows above the minimums: what the capacities leave, and a flow that keeps all arcs between their numbers.

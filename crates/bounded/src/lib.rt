@@ -10,7 +10,6 @@ ghost use Rattle.start.specs.Sums.{sumAt};
 ghost use Rattle.arcs.specs.Work.{workEnd};
 ghost use Rattle.minimums.specs.BoundedTable.{givenBounded, lentBounded};
 ghost use Rattle.joining.specs.Joining.{joinedArcs, Small};
-ghost use Rattle.feasible.specs.Deciding.{First};
 ghost use Rattle.bounded.specs.Solving.{Solvable, OwnRows, Above, Leaves};
 ghost use Rattle.bounded.specs.declared.Bounded.the-variants.{Value};
 
@@ -84,7 +83,7 @@ fn greatest(
     net_out(tails, heads, flow, s)
 }
 
-// Solves an accepted bounded table with room, from a flow of the table without its minimums, in rows of its own.
+// Solves an accepted bounded table with room, in rows of its own.
 fn solve_in(
     n: u32,
     s: u32,
@@ -93,23 +92,19 @@ fn solve_in(
     heads: &[u32],
     capacities: &[u32],
     minimums: &[u32],
-    first: &[u32],
     from: &mut [u32],
     to: &mut [u32],
     limits: &mut [u32],
     none: &[u32],
-    met: &mut [u32],
     more: &mut [u32],
     lists: &mut [u32],
     flow: &mut [u32],
     side: &mut [u8],
 ) -> Bounded
     requires { ⌜ Solvable (givenBounded n s t tails heads capacities minimums) (now flow) (now side) ⌝ }
-    requires { ⌜ First (givenBounded n s t tails heads capacities minimums) (now first) ⌝ }
-    requires { ⌜ OwnRows (length (now minimums)) (joinedArcs n (length (now capacities))) (now from) (now to) (now limits) (now none) (now met) (now more) (now lists) ⌝ }
+    requires { ⌜ OwnRows (joinedArcs n (length (now capacities))) (now from) (now to) (now limits) (now none) (now more) (now lists) ⌝ }
     ensures { λ r. ⌜ Leaves (lentBounded n s t tails heads capacities minimums) (before flow) (before side) r (after flow) (after side) ⌝ }
 {
-    joining::meet(first, minimums, met);
     joining::join(
         n,
         s,
@@ -118,12 +113,9 @@ fn solve_in(
         heads,
         capacities,
         minimums,
-        first,
-        met,
         from,
         to,
         limits,
-        more,
     );
     if !feasible::feasible(
         n,
@@ -161,7 +153,6 @@ fn solve_in(
 }
 
 // Solves an accepted table with minimums: a flow of greatest value among those that keep every arc between its two numbers, with the smallest side; or no flow does.
-// It starts from any flow of the table without its minimums: the nearer that is to a largest one, the sooner it ends.
 pub fn solve_bounded(
     n: u32,
     s: u32,
@@ -170,22 +161,18 @@ pub fn solve_bounded(
     heads: &[u32],
     capacities: &[u32],
     minimums: &[u32],
-    first: &[u32],
     flow: &mut [u32],
     side: &mut [u8],
 ) -> Bounded
     requires { ⌜ Solvable (givenBounded n s t tails heads capacities minimums) (now flow) (now side) ⌝ }
-    requires { ⌜ First (givenBounded n s t tails heads capacities minimums) (now first) ⌝ }
     ensures { λ r. ⌜ Leaves (lentBounded n s t tails heads capacities minimums) (before flow) (before side) r (after flow) (after side) ⌝ }
 {
     let mut from = [0u32; 5122];
     let mut to = [0u32; 5122];
     let mut limits = [0u32; 5122];
     let none = [0u32; 5122];
-    let mut met = [0u32; 4096];
     let mut more = [0u32; 5122];
     let mut lists = [0u32; 4 * 514 + 2 * 5122 + 1];
-    let arcs = minimums.len();
     let nodes = n as usize;
     let size = capacities.len() + (nodes + (nodes + 2));
     solve_in(
@@ -196,12 +183,10 @@ pub fn solve_bounded(
         heads,
         capacities,
         minimums,
-        first,
         &mut from[..size],
         &mut to[..size],
         &mut limits[..size],
         &none[..size],
-        &mut met[..arcs],
         &mut more[..size],
         &mut lists,
         flow,

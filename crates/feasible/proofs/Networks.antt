@@ -1,30 +1,31 @@
--- The rows of the joined network make it, and going on in it from what it carries of a flow tells whether some flow keeps all arcs between their numbers.
-use Prim.Native.Nat.{ℕ, _+_, _-_, _≤_, _<_}
-use mathlib.Core.Path.{_≡_, refl, ap, ap₂, sym, subst, _∙_}
+-- The rows of the joined network make it, and going on in it from nothing tells whether some flow keeps all arcs between their numbers.
+use Prim.Native.Nat.{ℕ, _+_, _-_, _≤_}
+use mathlib.Core.Path.{_≡_, refl, ap, sym, subst, _∙_}
 use mathlib.Core.Bool.{Bool, true, false, true≢false}
 use mathlib.Core.List.{List}
 use native.Mathlib.Omega.{arith}
+use lib.Dec.{eqb}
 use lib.ListN.{length, replicate, length-replicate}
 use Rattle.rows.specs.Row.{atPlace}
-use Rattle.rows.proofs.Rows.{length-places, at-places, zero-at}
+use Rattle.rows.specs.Sum.{only}
+use Rattle.rows.proofs.Rows.{zero-at}
+use Rattle.rows.proofs.Sums.{sum-zero, only-of-zero}
 use Rattle.network.specs.Network.{Network, Flow, Maximum, inflow, outflow}
 use Rattle.network.proofs.Notions.{Sound}
-use Rattle.network.proofs.Agree.{inflow-agree, outflow-agree}
 use Rattle.shortest.specs.Augment.{boundNetwork, settled}
 use Rattle.shortest.specs.Rows.{Ready}
 use Rattle.shortest.proofs.Settling.{settled-answer}
 use Rattle.start.specs.Sums.{sumAt}
 use Rattle.arcs.specs.Ends.{WideEnds}
 use Rattle.arcs.specs.Work.{workEnd}
-use Rattle.joined.specs.Joined.{Joins, Lifts, meets}
-use Rattle.joined.proofs.Joining.{joined-sound, lifted-flow, largest-fills, filled-flow}
+use Rattle.joined.specs.Joined.{Joins}
+use Rattle.joined.proofs.Joining.{joined-sound, largest-fills, filled-flow}
 use Rattle.minimums.specs.BoundedTable.{boundedOf, AcceptedBounded}
-use Rattle.joining.specs.Joining.{joinedArcs, JoinedRows, metRow, joinedFlow}
+use Rattle.joining.specs.Joining.{joinedArcs, JoinedRows}
 use Rattle.joining.proofs.Blocks.{block-old, block-in, block-out, block-forth, block-back, block-last}
-use Rattle.joining.proofs.Writing.{met-at}
 use Rattle.feasible.specs.Flows.{boundedNetwork, BoundedFlow, NoFlow}
 use Rattle.feasible.specs.Filling.{Full}
-use Rattle.feasible.specs.Deciding.{Feasible, Started}
+use Rattle.feasible.specs.Deciding.{Feasible}
 use Rattle.feasible.proofs.Accepting.{bounded-sound, all-capacities}
 use Rattle.feasible.proofs.Places.{tail-is, head-is, capacity-is, tails-long, heads-long, capacities-long, spare-is}
 
@@ -39,6 +40,17 @@ pub held-leaves : (n s t : ℕ) (tails heads capacities minimums row : List ℕ)
     → sumAt tails row i (length capacities) ≡ outflow (boundNetwork n s t tails heads capacities minimums) (atPlace row) i
 unfolding outflow
 held-leaves n s t tails heads capacities minimums row i = refl
+
+module _ (N : Network) (places i : ℕ) where
+  -- Of zeros nothing enters a node,
+  none-enters : inflow N (atPlace (replicate places 0)) i ≡ 0
+  unfolding inflow
+  none-enters = sum-zero (N .m) _ (λ k _. ap (only (eqb (N .head k) i)) (zero-at places k) ∙ only-of-zero (eqb (N .head k) i))
+
+  -- and nothing leaves it.
+  none-leaves : outflow N (atPlace (replicate places 0)) i ≡ 0
+  unfolding outflow
+  none-leaves = sum-zero (N .m) _ (λ k _. ap (only (eqb (N .tail k) i)) (zero-at places k) ∙ only-of-zero (eqb (N .tail k) i))
 
 module _ {n s t : ℕ} {tails heads capacities minimums : List ℕ} (accepted : AcceptedBounded (boundedOf n s t tails heads capacities minimums))
     {tails₂ heads₂ capacities₂ zeros : List ℕ} (joined : JoinedRows n s t tails heads capacities minimums tails₂ heads₂ capacities₂)
@@ -105,51 +117,18 @@ module _ {n s t : ℕ} {tails heads capacities minimums : List ℕ} (accepted : 
   sound₂ : Sound J
   sound₂ = joined-sound N J 4096000000 sound joins
 
-  module _ {flow₂ : List ℕ} (started : Started n s t tails heads capacities minimums flow₂) where
-    -- It lifts the flow that it started from.
-    lifts : Lifts N (atPlace (started .first)) (atPlace flow₂)
-    lifts =
-        record {
-          old = λ k l. more-is k (omega arith) ∙ sym (block-old n m k _ _ _ _ _ l);
-          ins = λ j l.
-              more-is (m + j) (omega arith)
-              ∙ sym (block-in n m (m + j) _ _ _ _ _ (omega arith) (omega arith))
-              ∙ ap (λ i. sumAt heads met i m) (less-in j)
-              ∙ held-enters n s t tails heads capacities minimums met (j + 1)
-              ∙ inflow-agree N (atPlace met) (meets N (atPlace (started .first))) met-is (j + 1);
-          outs = λ j l.
-              more-is (m + (n + j)) (omega arith)
-              ∙ sym (block-out n m (m + (n + j)) _ _ _ _ _ (omega arith) (omega arith))
-              ∙ ap (λ i. sumAt tails met i m) (less-out j)
-              ∙ held-leaves n s t tails heads capacities minimums met (j + 1)
-              ∙ outflow-agree N (atPlace met) (meets N (atPlace (started .first))) met-is (j + 1);
-          forth =
-              more-is _ (omega arith)
-              ∙ sym (block-forth n m (m + (n + (n + 0))) _ _ _ _ _ (omega arith) (omega arith))
-              ∙ ap₂ (λ x y. x - y) into out;
-          back =
-              more-is _ (omega arith)
-              ∙ sym (block-back n m (m + (n + (n + 1))) _ _ _ _ _ (omega arith) (λ e. omega arith))
-              ∙ ap₂ (λ x y. x - y) out into;
-        }
-      where
-        met : List ℕ
-        met = metRow (started .first) minimums
+  module _ {flow₂ : List ℕ} (nothing : flow₂ ≡ replicate (joinedArcs n (length capacities)) 0) where
+    -- Nothing flows in it: that is a flow,
+    empty-flow : Flow J (atPlace flow₂)
+    empty-flow =
+        subst (λ r. Flow J (atPlace r)) (sym nothing)
+        (record {
+          low = λ k l. omega (arith, joins .low k l);
+          high = λ k l. omega (arith, zero-at (joinedArcs n m) k);
+          kept = λ i v. none-enters J (joinedArcs n m) i ∙ sym (none-leaves J (joinedArcs n m) i);
+        })
 
-        more-is : (k : ℕ) → k < joinedArcs n m → atPlace flow₂ k ≡ joinedFlow n s tails heads minimums (started .first) m k
-        more-is k l =
-            ap (λ r. atPlace r k) (started .is) ∙ at-places (joinedFlow n s tails heads minimums (started .first) m) (joinedArcs n m) k l
-
-        met-is : (k : ℕ) → k < m → atPlace met k ≡ meets N (atPlace (started .first)) k
-        met-is k l = met-at (started .first) minimums k (omega (arith, accepted .rows .minimums-long))
-
-        into : sumAt heads (started .first) s m ≡ inflow N (atPlace (started .first)) s
-        into = held-enters n s t tails heads capacities minimums (started .first) s
-
-        out : sumAt tails (started .first) s m ≡ outflow N (atPlace (started .first)) s
-        out = held-leaves n s t tails heads capacities minimums (started .first) s
-
-    -- So the joined rows are ready to go on,
+    -- so the joined rows are ready to go on,
     pub joined-ready : Ready (n + 2) (n + 1) (n + 2) tails₂ heads₂ capacities₂ zeros flow₂
     joined-ready =
         let few = accepted .rows .arcs .ends .few-arcs in
@@ -172,12 +151,12 @@ module _ {n s t : ℕ} {tails heads capacities minimums : List ℕ} (accepted : 
                       capacities-long = capacities-long joined ∙ sym (tails-long joined);
                     };
                 minimums-long = ap length zeros-are ∙ length-replicate (joinedArcs n m) 0 ∙ sym (capacities-long joined);
-                flow-long = omega (arith, ap length (started .is), length-places (joinedFlow n s tails heads minimums (started .first) m) (joinedArcs n m), capacities-long joined);
+                flow-long = omega (arith, ap length nothing, length-replicate {A = ℕ} (joinedArcs n m) 0, capacities-long joined);
               };
           source = sound₂ .source;
           sink = sound₂ .sink;
           apart = sound₂ .apart;
-          valid = lifted-flow N J 4096000000 sound joins (atPlace (started .first)) (started .begins .loose) (atPlace flow₂) lifts;
+          valid = empty-flow;
         }
 
     -- their lists can be made,

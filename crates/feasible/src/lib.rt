@@ -7,7 +7,7 @@ ghost use Rattle.arcs.specs.Work.{workEnd};
 ghost use Rattle.minimums.specs.BoundedTable.{givenBounded, lentBounded, AcceptedBounded};
 ghost use Rattle.joining.specs.Joining.{joinedArcs, JoinedRows};
 ghost use Rattle.feasible.specs.Filling.{Full};
-ghost use Rattle.feasible.specs.Deciding.{Started, Feasible};
+ghost use Rattle.feasible.specs.Deciding.{Feasible};
 
 // Whether the arcs from place `from` up to place `to` are all full.
 fn all_full(capacities: &[u32], flow: &[u32], from: usize, to: usize) -> bool
@@ -24,7 +24,7 @@ fn all_full(capacities: &[u32], flow: &[u32], from: usize, to: usize) -> bool
     true
 }
 
-// Whether some flow keeps all arcs between their numbers. `more` comes with a flow of the joined network; what it then holds above the minimums is such a flow.
+// Whether some flow keeps all arcs between their numbers. `none` and `more` come as zeros; where one does, what `more` then holds above the minimums is such a flow.
 pub fn feasible(
     n: u32,
     s: u32,
@@ -42,8 +42,7 @@ pub fn feasible(
 ) -> bool
     requires { ⌜ AcceptedBounded (givenBounded n s t tails heads capacities minimums) ⌝ }
     requires { ⌜ JoinedRows n s t (now tails) (now heads) (now capacities) (now minimums) (now from) (now to) (now limits) ⌝ }
-    requires { ⌜ now none ≡ replicate (joinedArcs n (length (now capacities))) 0 ⌝ }
-    requires { ⌜ Started n s t (now tails) (now heads) (now capacities) (now minimums) (now more) ⌝ }
+    requires { ⌜ (now none ≡ replicate (joinedArcs n (length (now capacities))) 0) × (now more ≡ replicate (joinedArcs n (length (now capacities))) 0) ⌝ }
     requires { ⌜ workEnd 514 5122 ≤ length (now lists) ⌝ }
     ensures { λ r. ⌜ Feasible (lentBounded n s t tails heads capacities minimums) (after more) r ⌝ }
 {

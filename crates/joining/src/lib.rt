@@ -1,4 +1,4 @@
-// Document 02, CR 11: the rows of the joined network, and of what it carries of a flow.
+// Document 02, CR 11: the rows of the joined network.
 ghost use mathlib.Core.Path.{_≡_};
 ghost use Prim.Native.Nat.{_-_, _≤_, _<_};
 ghost use lib.ListN.{length};
@@ -8,7 +8,7 @@ ghost use Rattle.table.specs.Accepted.{ArcEnds};
 ghost use Rattle.start.specs.Sums.{sumAt};
 ghost use Rattle.sums.specs.Tallied.{Tallied};
 ghost use Rattle.minimums.specs.BoundedTable.{BoundedRows};
-ghost use Rattle.joining.specs.Joining.{joinedArcs, joinedTail, joinedHead, joinedNumber, Small, numberAt, Numbers, Summable, JoinedRows, metRow, joinedFlow, FirstRows};
+ghost use Rattle.joining.specs.Joining.{joinedArcs, joinedTail, joinedHead, joinedCapacity, Small, capacityAt, Numbers, Summable, JoinedRows};
 
 // What the first places of a row hold of arcs with end i, in 32 bits: `ends` is the row of tails or of heads.
 pub fn held_at(ends: &[u32], row: &[u32], i: u32) -> u32
@@ -72,36 +72,22 @@ fn beyond(a: u32, b: u32) -> u32
     a - b
 }
 
-// What of a flow goes to meet the minimums.
-pub fn meet(first: &[u32], minimums: &[u32], row: &mut [u32])
-    requires { ⌜ (length (now minimums) ≤ length (now first)) × (length (now row) ≡ length (now minimums)) ⌝ }
-    ensures { λ _. ⌜ after row ≡ metRow (before first) (before minimums) ⌝ }
-{
-    let mut k = 0;
-    while k < row.len() {
-        row[k] = augment::lesser(first[k], minimums[k]);
-        k += 1;
-    }
-}
-
-// The number at place k of the joined network: what a row has above the minimums, what is held at a node's heads or at its tails, or one forth or back.
-fn number_at(
-    above: &[u32],
+// The capacity at place k of the joined network: what is left above the minimum, the minimums into a node or out of it, or room for everything.
+fn capacity_at(
+    capacities: &[u32],
     minimums: &[u32],
     entering: &[u64],
     leaving: &[u64],
-    forth: u32,
-    back: u32,
     k: usize,
 ) -> u32
-    requires { ⌜ Numbers (now above) (now minimums) (now entering) (now leaving) ⌝ }
+    requires { ⌜ Numbers (now capacities) (now minimums) (now entering) (now leaving) ⌝ }
     requires { ⌜ k < joinedArcs (length (now entering)) (length (now minimums)) ⌝ }
-    ensures { λ r. ⌜ r ≡ numberAt (before above) (before minimums) (before entering) (before leaving) forth back k ⌝ }
+    ensures { λ r. ⌜ r ≡ capacityAt (before capacities) (before minimums) (before entering) (before leaving) k ⌝ }
 {
     let m = minimums.len();
     let nodes = entering.len();
     if k < m {
-        return beyond(above[k], minimums[k]);
+        return beyond(capacities[k], minimums[k]);
     }
     if k < m + nodes {
         return entering[k - m] as u32;
@@ -109,85 +95,71 @@ fn number_at(
     if k < m + (nodes + nodes) {
         return leaving[k - (m + nodes)] as u32;
     }
-    if k == m + (nodes + nodes) {
-        return forth;
-    }
-    back
+    4096000000
 }
 
-// The numbers at all places of the joined network, read off such rows.
-fn fill_numbers(
-    above: &[u32],
+// The capacities at all places of the joined network, read off such rows.
+fn fill_capacities(
+    capacities: &[u32],
     minimums: &[u32],
     entering: &[u64],
     leaving: &[u64],
-    forth: u32,
-    back: u32,
     row: &mut [u32],
 )
-    requires { ⌜ Numbers (now above) (now minimums) (now entering) (now leaving) ⌝ }
+    requires { ⌜ Numbers (now capacities) (now minimums) (now entering) (now leaving) ⌝ }
     requires { ⌜ length (now row) ≡ joinedArcs (length (now entering)) (length (now minimums)) ⌝ }
-    ensures { λ _. ⌜ after row ≡ byPlace (numberAt (before above) (before minimums) (before entering) (before leaving) forth back) (length (before row)) ⌝ }
+    ensures { λ _. ⌜ after row ≡ byPlace (capacityAt (before capacities) (before minimums) (before entering) (before leaving)) (length (before row)) ⌝ }
 {
     let mut k = 0;
     while k < row.len() {
-        row[k] = number_at(above, minimums, entering, leaving, forth, back, k);
+        row[k] = capacity_at(capacities, minimums, entering, leaving, k);
         k += 1;
     }
 }
 
-// The numbers of the joined network: what is held at each node is added up first, in rows of zeros and one pass over the arcs each.
-fn sum_numbers(
+// The capacities of the joined network: the minimums at each node are added up first, in rows of zeros and one pass over the arcs each.
+fn sum_capacities(
     tails: &[u32],
     heads: &[u32],
-    above: &[u32],
+    capacities: &[u32],
     minimums: &[u32],
-    held: &[u32],
-    forth: u32,
-    back: u32,
     entering: &mut [u64],
     leaving: &mut [u64],
     row: &mut [u32],
 )
-    requires { ⌜ Summable (length (now entering)) (now tails) (now heads) (now above) (now minimums) (now held) ⌝ }
+    requires { ⌜ Summable (length (now entering)) (now tails) (now heads) (now capacities) (now minimums) ⌝ }
     requires { ⌜ (length (now leaving) ≡ length (now entering)) × (length (now row) ≡ joinedArcs (length (now entering)) (length (now minimums))) ⌝ }
-    requires { ⌜ Tallied (now heads) (now held) 0 (now entering) × Tallied (now tails) (now held) 0 (now leaving) ⌝ }
+    requires { ⌜ Tallied (now heads) (now minimums) 0 (now entering) × Tallied (now tails) (now minimums) 0 (now leaving) ⌝ }
     ensures { λ _. ⌜ (let n = length (before entering) in let m = length (before minimums) in
-        after row ≡ byPlace (joinedNumber n (before tails) (before heads) (before above) (before minimums) (before held) forth back m) (joinedArcs n m)) ⌝ }
+        after row ≡ byPlace (joinedCapacity n (before tails) (before heads) (before capacities) (before minimums) m) (joinedArcs n m)) ⌝ }
 {
-    sums::tally(heads, held, entering);
-    sums::tally(tails, held, leaving);
-    fill_numbers(above, minimums, entering, leaving, forth, back, row);
+    sums::tally(heads, minimums, entering);
+    sums::tally(tails, minimums, leaving);
+    fill_capacities(capacities, minimums, entering, leaving, row);
 }
 
-// The numbers of the joined network, in its own rows of sums.
-fn join_numbers(
+// The capacities of the joined network, with rows of its own for the sums.
+fn join_capacities(
     n: u32,
     tails: &[u32],
     heads: &[u32],
-    above: &[u32],
+    capacities: &[u32],
     minimums: &[u32],
-    held: &[u32],
-    forth: u32,
-    back: u32,
     row: &mut [u32],
 )
-    requires { ⌜ Summable n (now tails) (now heads) (now above) (now minimums) (now held) ⌝ }
+    requires { ⌜ Summable n (now tails) (now heads) (now capacities) (now minimums) ⌝ }
     requires { ⌜ length (now row) ≡ joinedArcs n (length (now minimums)) ⌝ }
     ensures { λ _. ⌜ (let m = length (before minimums) in
-        after row ≡ byPlace (joinedNumber n (before tails) (before heads) (before above) (before minimums) (before held) forth back m) (joinedArcs n m)) ⌝ }
+        after row ≡ byPlace (joinedCapacity n (before tails) (before heads) (before capacities) (before minimums) m) (joinedArcs n m)) ⌝ }
 {
     let mut entering = [0u64; 512];
     let mut leaving = [0u64; 512];
     let nodes = n as usize;
-    sum_numbers(
+    sum_capacities(
         tails,
         heads,
-        above,
+        capacities,
         minimums,
-        held,
-        forth,
-        back,
         &mut entering[..nodes],
         &mut leaving[..nodes],
         row,
@@ -210,7 +182,7 @@ fn join_ends(n: u32, s: u32, t: u32, tails: &[u32], heads: &[u32], from: &mut [u
     }
 }
 
-// The three rows of the joined network, and what it carries of a flow.
+// The three rows of the joined network.
 pub fn join(
     n: u32,
     s: u32,
@@ -219,36 +191,15 @@ pub fn join(
     heads: &[u32],
     capacities: &[u32],
     minimums: &[u32],
-    first: &[u32],
-    met: &[u32],
     from: &mut [u32],
     to: &mut [u32],
     limits: &mut [u32],
-    more: &mut [u32],
 )
     requires { ⌜ BoundedRows n (now tails) (now heads) (now capacities) (now minimums) ⌝ }
-    requires { ⌜ FirstRows (now tails) (now heads) (now minimums) (now first) × (now met ≡ metRow (now first) (now minimums)) ⌝ }
     requires { ⌜ (length (now from) ≡ joinedArcs n (length (now capacities))) × (length (now to) ≡ joinedArcs n (length (now capacities))) ⌝ }
-    requires { ⌜ (length (now limits) ≡ joinedArcs n (length (now capacities))) × (length (now more) ≡ joinedArcs n (length (now capacities))) ⌝ }
-    ensures rows { λ _. ⌜ JoinedRows n s t (before tails) (before heads) (before capacities) (before minimums) (after from) (after to) (after limits) ⌝ }
-    ensures flow { λ _. ⌜ (let m = length (before capacities) in
-        after more ≡ byPlace (joinedFlow n s (before tails) (before heads) (before minimums) (before first) m) (joinedArcs n m)) ⌝ }
+    requires { ⌜ length (now limits) ≡ joinedArcs n (length (now capacities)) ⌝ }
+    ensures { λ _. ⌜ JoinedRows n s t (before tails) (before heads) (before capacities) (before minimums) (after from) (after to) (after limits) ⌝ }
 {
     join_ends(n, s, t, tails, heads, from, to);
-    join_numbers(
-        n,
-        tails,
-        heads,
-        capacities,
-        minimums,
-        minimums,
-        4096000000,
-        4096000000,
-        limits,
-    );
-    let leaving = held_at(tails, first, s);
-    let entering = held_at(heads, first, s);
-    let forth = beyond(entering, leaving);
-    let back = beyond(leaving, entering);
-    join_numbers(n, tails, heads, first, minimums, met, forth, back, more);
+    join_capacities(n, tails, heads, capacities, minimums, limits);
 }

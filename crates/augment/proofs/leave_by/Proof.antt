@@ -8,7 +8,7 @@ use Rattle.shortest.specs.Rows.{rowWays, endsOf}
 use Rattle.shortest.proofs.Ends.{place-within, rows-kept}
 use Rattle.measuring.specs.Visits.{ListOf}
 use Rattle.measuring.proofs.Lists.{listed}
-use Rattle.augment.proofs.Walking.{next-most, noted-lowest, noted-far, nowhere-noted, lowest-noted, far-noted}
+use Rattle.augment.proofs.Walking.{next-most, noted-lowest, noted-none, noted-far, nowhere-noted, lowest-noted, far-noted}
 use Rattle.augment.proofs.leave_by.Statement.{statement}
 use Rattle.augment.proofs.leave_by.Tie as tie
 
@@ -50,17 +50,20 @@ node-list-requires c κs =
     let given = start .args in
     (endsOf (given .n) (given .tails .now) (given .heads .now) (given .capacities .now), start .pre .1 .0, refl, refl, start .pre .1 .1 .0 .3)
 
+noted-of-requires : tie.Need-noted-of-requires
+noted-of-requires c κs = search needs
+
 next-place-requires : tie.Need-next-place-requires
 next-place-requires c κs =
-    let start = c .before .before .before .before .before .before .before .before .before .before .before .before in
+    let start = c .before .before .before .before .before .before .before .before .before .before .before .before .before in
     let given = start .args in (
       rows-kept (start .pre .0) (start .pre .1 .1 .0 .0),
-      subst (ListOf (ways start) (given .i)) (sym (c .node-list .ensures (endsOf (given .n) (given .tails .now) (given .heads .now) (given .capacities .now)) (start .pre .1 .0) refl refl)) (listed (start .pre .0) (given .i)),
+      (subst (ListOf (ways start) (given .i)) (sym (c .before .node-list .ensures (endsOf (given .n) (given .tails .now) (given .heads .now) (given .capacities .now)) (start .pre .1 .0) refl refl)) (listed (start .pre .0) (given .i)), noted-none (start .pre .1 .1 .1) (given .d) (given .i) _ (start .pre .1 .1 .0 .3) (start .pre .1 .1 .0 .4) (c .noted-of .ensures) refl),
     )
 
 cast-lowest : tie.Need-cast-lowest
 cast-lowest c =
-    let start = c .before .before .before .before .before .before .before .before .before .before .before .before .before in
+    let start = c .before .before .before .before .before .before .before .before .before .before .before .before .before .before in
     omega (arith, c .next-place .ensures, next-most (ways start) (start .args .dist .now) (start .args .d) (start .args .i), start .pre .0 .arcs .capacities-long, start .pre .0 .arcs .ends .few-arcs)
 
 mul-lowest : tie.Need-mul-lowest
@@ -74,7 +77,7 @@ same-length c = search needs
 
 returns-2 : tie.Need-returns-2
 returns-2 c =
-    let start = c .before .before .before .before .before .before .before .before .before .before .before .before .before .before in
+    let start = c .before .before .before .before .before .before .before .before .before .before .before .before .before .before .before in
     let given = start .args in
     let asked = start .pre .1 .1 in (
       c .before .next-place .ensures,
@@ -82,13 +85,13 @@ returns-2 c =
     )
 
 far-at-requires : tie.Need-far-at-requires
-far-at-requires c κs = let (t, h, l, f) = place-within (c .before .before .before .before .before .before .before .before .before .before .before .before .before .before .pre .0) (c .if3 .left) in (t, h)
+far-at-requires c κs = let (t, h, l, f) = place-within (c .before .before .before .before .before .before .before .before .before .before .before .before .before .before .before .pre .0) (c .if3 .left) in (t, h)
 
 mul-far : tie.Need-mul-far
 mul-far c = search needs
 
 slice-write-far : tie.Need-slice-write-far
-slice-write-far c = search needs
+slice-write-far c = let asked = c .before .before .before .before .before .before .before .before .before .before .before .before .before .before .before .before .pre .1 .1 .0 in omega (arith, asked .2, asked .3)
 
 same-length-2 : tie.Need-same-length-2
 same-length-2 c = search needs
@@ -98,7 +101,7 @@ same-length-3 c = search needs
 
 returns-3 : tie.Need-returns-3
 returns-3 c =
-    let start = c .before .before .before .before .before .before .before .before .before .before .before .before .before .before .before in
+    let start = c .before .before .before .before .before .before .before .before .before .before .before .before .before .before .before .before in
     let given = start .args in
     let asked = start .pre .1 .1 in
     let place = c .before .before .next-place .ensures in (
@@ -121,6 +124,7 @@ leave-by-spec =
     leads-at-requires
     returns
     node-list-requires
+    noted-of-requires
     next-place-requires
     cast-lowest
     mul-lowest

@@ -1,13 +1,13 @@
 -- `walk` meets its contract. The loop's invariant: the first p places are there, and the chain goes on from node i. The measure is the label.
-use mathlib.Core.Path.{sym, _∙_}
+use mathlib.Core.Path.{_≡_, sym, _∙_}
 use native.Mathlib.Omega.{arith}
 use borrow.Author.Needs.{needs}
 use Rattle.shortest.specs.Augment.{boundNetwork}
 use Rattle.shortest.proofs.Ends.{rows-ends}
 use Rattle.augment.proofs.Pouring.{residual-picked, ready-place}
-use Rattle.augment.proofs.Extending.{source-label}
+use Rattle.augment.proofs.Extending.{source-label, walked-above}
 use Rattle.rows.proofs.Rows.{node-at}
-use Rattle.augment.proofs.Walking.{Walking, walking-start, walking-turn, walking-stuck, walking-done}
+use Rattle.augment.proofs.Walking.{Walking, walking-start, walking-turn, walking-stuck, walking-there, walking-done}
 use Rattle.augment.proofs.walk.Statement.{statement}
 use Rattle.augment.proofs.walk.Tie as tie
 
@@ -59,8 +59,11 @@ same-length-3 c = c .before .before .before .before .before .before .before .bef
 
 returns : tie.Need-returns Inv-loop μ-loop
 returns c =
+    let start = c .before .before .before .before .before .before .before .before .before .before .before .before .before .before .before .before .before .before .before .before .before in
+    let so = c .before .before .before .before .before .before .before .before .before .loop .inv in
+    let more = c .before .before .before .before .before .before .before .before .loop-test .taken in
     let left = c .before .before .before .before .before .leave-by .ensures in
-    walking-stuck (rows-ends (c .before .before .before .before .before .before .before .before .before .before .before .before .before .before .before .before .before .before .before .before .before .pre .0 .rows)) (c .before .before .before .before .before .before .before .before .before .loop .inv) (c .before .before .before .before .before .before .before .before .loop-test .taken) (left .0) (c .if1 .taken) (left .1 .0)
+    (walking-stuck (rows-ends (start .pre .0 .rows)) so more (left .0) (c .if1 .taken) (left .1 .0), λ _. (so .node, omega (arith, so .at, more)))
 
 cast-chain : tie.Need-cast-chain Inv-loop μ-loop
 cast-chain c = let arcs = c .before .before .before .before .before .before .before .before .before .before .before .before .before .before .before .before .before .before .before .before .before .pre .0 .rows .arcs in omega (arith, c .if1 .left, arcs .capacities-long, arcs .ends .few-arcs)
@@ -142,7 +145,11 @@ same-length-6 c = c .before .loop .inv .long
 returns-2 : tie.Need-returns-2 Inv-loop μ-loop
 returns-2 c =
     let start = c .before .before .before .before .before .before .before .before .before .before .before .before .before in
-    walking-done (c .before .loop .inv) (search needs) (start .pre .0 .valid) (λ k. omega (arith, c .before .before .before .before .before .before .before .before .before .before .shared-slice-known3 .given k)) (source-label (start .pre .0) (start .pre .1 .1 .1 .labels) .0)
+    let so = c .before .loop .inv in
+    let low = start .pre .1 .1 .1 .labels in
+    let end : c .before .loop .d ≡ 0 = omega (arith, c .loop-test .left) in
+    let done = walking-done so end (start .pre .0 .valid) (λ k. omega (arith, c .before .before .before .before .before .before .before .before .before .before .shared-slice-known3 .given k)) (source-label (start .pre .0) low .0) in
+    (done, λ none. absurd (omega (arith, none, walked-above (start .pre .0) (start .pre .1 .1 .1) done (walking-there so end))))
 
 pub walk-spec : {M : Type 1} → statement M
 walk-spec =

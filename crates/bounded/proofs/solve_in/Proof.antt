@@ -1,10 +1,11 @@
--- `solve_in` meets its contract: the joined network with a flow to start from, whether a flow keeps all arcs between their numbers, and then the greatest.
-use mathlib.Core.Path.{refl, sym, subst, _∙_}
+-- `solve_in` meets its contract: the joined network, whether a flow keeps all arcs between their numbers, and then the greatest.
+use mathlib.Core.Path.{refl, sym, ap, subst, _∙_}
 use native.Mathlib.Omega.{arith}
 use borrow.Author.Tests.{not-true, not-false}
+use lib.ListN.{length, length-replicate}
 use lib.Seq.{length-take-le}
 use Rattle.bounded.specs.Bounded.{GreatestBounded}
-use Rattle.bounded.proofs.Rows.{room-for, above-is, first-rows}
+use Rattle.bounded.proofs.Rows.{room-for, above-is}
 use Rattle.bounded.proofs.Signed.{read-value}
 use borrow.Author.Needs.{needs}
 use Rattle.bounded.proofs.solve_in.Statement.{statement}
@@ -12,37 +13,24 @@ use Rattle.bounded.proofs.solve_in.Tie as tie
 
 -- Where the joined network is made: the function's entry.
 abbrev from-joined : tie.After-join → tie.Start
-from-joined c = c .before .before .before .before .before .before .before .before .before .before .before .before .before .before .before .before .before .before .before .before .before .before .before .before
+from-joined c = c .before .before .before .before .before .before .before .before .before .before .before .before .before .before .before .before
 
 -- Where it is known whether a flow keeps all arcs between their numbers.
 abbrev from-tested : tie.After-feasible → tie.After-join
-from-tested c = c .before .before .before .before .before .before .before .before .before .before .before .before .before .before
-
-meet-requires : tie.Need-meet-requires
-meet-requires c κs = search needs
+from-tested c = c .before .before .before .before .before .before .before .before .before .before .before .before
 
 join-requires : tie.Need-join-requires
 join-requires c κs =
-    let start = c .before .before .before .before .before .before .before .before .before .before .before .before .before .before .before .before .before .before .before .before .before .before .before in
-    let own = start .pre .1 .1 in (
-      start .pre .0 .accepted .rows,
-      (
-        (first-rows (start .pre .0 .accepted) (start .pre .1 .0), c .before .before .before .before .before .before .before .meet .ensures),
-        ((own .from-long, own .to-long), (own .limits-long, own .more-long)),
-      ),
-    )
+    let start = c .before .before .before .before .before .before .before .before .before .before .before .before .before .before .before in
+    let own = start .pre .1 in
+    (start .pre .0 .accepted .rows, ((own .from-long, own .to-long), own .limits-long))
 
 feasible-requires : tie.Need-feasible-requires
 feasible-requires c κs =
-    let joined = c .before .before .before .before .before .before .before .before .before .before .before .before .before in
+    let joined = c .before .before .before .before .before .before .before .before .before .before .before in
     let start = from-joined joined in
-    let own = start .pre .1 .1 in (
-      start .pre .0 .accepted,
-      (
-        joined .join .ensures .0,
-        (own .none-empty, (record { first = start .args .first .now; begins = start .pre .1 .0; is = joined .join .ensures .1 }, own .lists-long)),
-      ),
-    )
+    let own = start .pre .1 in
+    (start .pre .0 .accepted, (joined .join .ensures, ((own .none-empty, own .more-empty), own .lists-long)))
 
 same-length : tie.Need-same-length
 same-length c = search needs
@@ -59,9 +47,6 @@ same-length-4 c = search needs
 same-length-5 : tie.Need-same-length-5
 same-length-5 c = search needs
 
-same-length-6 : tie.Need-same-length-6
-same-length-6 c = search needs
-
 returns : tie.Need-returns
 returns c =
     let tested = c .before .before .before .before .before in
@@ -69,54 +54,47 @@ returns c =
 
 slice-reshare-prefix-greatest : tie.Need-slice-reshare-prefix-greatest
 slice-reshare-prefix-greatest c =
-    let joined = c .before .before .before .before .before .before .before .before .before .before .before .before .before .before .before .before .before .before .before in
-    let start = from-joined joined in
-    room-for (joined .join .ensures .0)
+    room-for (c .before .before .before .before .before .before .before .before .before .before .before .before .before .before .before .before .before .join .ensures)
 
 slice-aggregate-greatest : tie.Need-slice-aggregate-greatest
 slice-aggregate-greatest c =
-    let joined = c .before .before .before .before .before .before .before .before .before .before .before .before .before .before .before .before .before .before .before .before in
-    let start = from-joined joined in
-    sym (length-take-le _ _ (room-for (joined .join .ensures .0)))
+    sym (length-take-le _ _ (room-for (c .before .before .before .before .before .before .before .before .before .before .before .before .before .before .before .before .before .before .join .ensures)))
 
 greatest-requires : tie.Need-greatest-requires
 greatest-requires c κs =
     let tested = c .before .before .before .before .before .before .before .before .before .before in
     let joined = from-tested tested in
     let start = from-joined joined in
-    let own = start .pre .1 .1 in (
+    let own = start .pre .1 in (
       start .pre .0,
       (
-        above-is (joined .join .ensures .0)
-            (tested .feasible .kept .1 .1 .1 .1 .1 .1 .1 .1 .1 .1 .1 .0 ∙ joined .join .kept .1 .1 .1 .1 .1 .1 .1 .1 .1 .1 .1 .1 .0 ∙ own .more-long)
+        above-is (joined .join .ensures)
+            (tested .feasible .kept .1 .1 .1 .1 .1 .1 .1 .1 .1 .1 .1 .0 ∙ ap length (own .more-empty) ∙ length-replicate _ 0)
             (tested .feasible .ensures .keeps (not-false _ (c .before .before .before .before .before .if1 .left))),
         omega (arith, own .lists-long, tested .feasible .kept .1 .1 .1 .1 .1 .1 .1 .1 .1 .1 .1 .1 .0),
       ),
     )
 
+same-length-6 : tie.Need-same-length-6
+same-length-6 c = c .before .before .before .before .before .before .before .before .before .before .before .before .before .before .before .before .before .before .before .before .before .before .before .before .before .before .before .before .before .before .before .join .kept .1 .1 .1 .1 .1 .1 .1 .0
+
 same-length-7 : tie.Need-same-length-7
-same-length-7 c = c .before .before .before .before .before .before .before .before .before .before .before .before .before .before .before .before .before .before .before .before .before .before .before .before .before .before .before .before .before .before .before .before .before .join .kept .1 .1 .1 .1 .1 .1 .1 .1 .1 .0
+same-length-7 c = c .before .before .before .before .before .before .before .before .before .before .before .before .before .before .before .before .before .before .before .before .before .before .before .before .before .before .before .before .before .before .before .join .kept .1 .1 .1 .1 .1 .1 .1 .1 .0
 
 same-length-8 : tie.Need-same-length-8
-same-length-8 c = c .before .before .before .before .before .before .before .before .before .before .before .before .before .before .before .before .before .before .before .before .before .before .before .before .before .before .before .before .before .before .before .before .before .join .kept .1 .1 .1 .1 .1 .1 .1 .1 .1 .1 .0
+same-length-8 c = search needs
 
 same-length-9 : tie.Need-same-length-9
 same-length-9 c = search needs
 
 same-length-10 : tie.Need-same-length-10
-same-length-10 c = c .before .before .before .before .before .before .before .before .before .before .before .before .before .before .before .before .before .before .before .before .before .before .before .before .before .before .before .before .before .before .before .before .before .before .before .before .before .before .before .before .before .meet .kept .1 .1 .0
+same-length-10 c = search needs
 
 same-length-11 : tie.Need-same-length-11
 same-length-11 c = search needs
 
 same-length-12 : tie.Need-same-length-12
 same-length-12 c = search needs
-
-same-length-13 : tie.Need-same-length-13
-same-length-13 c = search needs
-
-same-length-14 : tie.Need-same-length-14
-same-length-14 c = search needs
 
 returns-2 : tie.Need-returns-2
 returns-2 c =
@@ -128,7 +106,6 @@ pub solve-in-spec : {M : Type 1} → statement M
 solve-in-spec =
     tie.close
     (tie.spec
-    meet-requires
     join-requires
     feasible-requires
     same-length
@@ -136,17 +113,15 @@ solve-in-spec =
     same-length-3
     same-length-4
     same-length-5
-    same-length-6
     returns
     slice-reshare-prefix-greatest
     slice-aggregate-greatest
     greatest-requires
+    same-length-6
     same-length-7
     same-length-8
     same-length-9
     same-length-10
     same-length-11
     same-length-12
-    same-length-13
-    same-length-14
     returns-2)

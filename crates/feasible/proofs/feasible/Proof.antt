@@ -15,12 +15,12 @@ add-sink c = search needs
 fill-work-requires : tie.Need-fill-work-requires
 fill-work-requires c κs =
     let start = c .before .before .before .before .before .before .before .before .before .before .before in
-    joined-lists (start .pre .0) (start .pre .1 .0) (start .pre .1 .1 .0) (start .pre .1 .1 .1 .0) _ (start .pre .1 .1 .1 .1)
+    joined-lists (start .pre .0) (start .pre .1 .0) (start .pre .1 .1 .0 .0) (start .pre .1 .1 .0 .1) _ (start .pre .1 .1 .1)
 
 go-on-requires : tie.Need-go-on-requires
 go-on-requires c κs =
     let start = c .before .before .before .before .before .before .before .before .before .before .before .before .before .before .before .before in
-    let ready = joined-ready (start .pre .0) (start .pre .1 .0) (start .pre .1 .1 .0) (start .pre .1 .1 .1 .0) in
+    let ready = joined-ready (start .pre .0) (start .pre .1 .0) (start .pre .1 .1 .0 .0) (start .pre .1 .1 .0 .1) in
     (ready, c .before .before .before .before .fill-work .ensures .0 0 0 (start .args .limits .now) (ready .rows .arcs .capacities-long))
 
 add-all-full : tie.Need-add-all-full
@@ -31,7 +31,7 @@ all-full-requires c κs =
     let gone = c .before .before .before in
     let start = c .before .before .before .before .before .before .before .before .before .before .before .before .before .before .before .before .before .before .before .before in
     let long = capacities-long (start .pre .1 .0) in
-    (omega arith, (omega (arith, long), omega (arith, long, gone .go-on .kept .1 .1 .1 .1 .1 .1 .1 .0, joined-ready (start .pre .0) (start .pre .1 .0) (start .pre .1 .1 .0) (start .pre .1 .1 .1 .0) .rows .flow-long)))
+    (omega arith, (omega (arith, long), omega (arith, long, gone .go-on .kept .1 .1 .1 .1 .1 .1 .1 .0, joined-ready (start .pre .0) (start .pre .1 .0) (start .pre .1 .1 .0 .0) (start .pre .1 .1 .0 .1) .rows .flow-long)))
 
 same-length : tie.Need-same-length
 same-length c = search needs
@@ -43,7 +43,7 @@ returns : tie.Need-returns
 returns c =
     let gone = c .before .before .before .before in
     let start = c .before .before .before .before .before .before .before .before .before .before .before .before .before .before .before .before .before .before .before .before .before in
-    feasible-by (start .pre .0) (start .pre .1 .0) (start .pre .1 .1 .0) (start .pre .1 .1 .1 .0) (gone .go-on .ensures) (c .all-full .result) (c .all-full .ensures)
+    feasible-by (start .pre .0) (start .pre .1 .0) (start .pre .1 .1 .0 .0) (start .pre .1 .1 .0 .1) (gone .go-on .ensures) (c .all-full .result) (c .all-full .ensures)
 
 pub feasible-spec : {M : Type 1} → statement M
 feasible-spec =

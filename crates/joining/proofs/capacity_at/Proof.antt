@@ -1,12 +1,12 @@
--- `number_at` meets its contract: each block is one return.
+-- `capacity_at` meets its contract: each block is one return.
 use Prim.Native.Nat.{_+_, _-_}
-use mathlib.Core.Path.{_∙_}
+use mathlib.Core.Path.{refl, _∙_}
 use native.Mathlib.Omega.{arith}
 use lib.ListN.{length}
-use Rattle.joining.proofs.Blocks.{block-old, block-in, block-out, block-forth, block-back}
+use Rattle.joining.proofs.Blocks.{block-old, block-in, block-out, block-last}
 use borrow.Author.Needs.{needs}
-use Rattle.joining.proofs.number_at.Statement.{statement}
-use Rattle.joining.proofs.number_at.Tie as tie
+use Rattle.joining.proofs.capacity_at.Statement.{statement}
+use Rattle.joining.proofs.capacity_at.Tie as tie
 
 mul-beyond : tie.Need-mul-beyond
 mul-beyond c = search needs
@@ -65,20 +65,11 @@ cast-result-2 c = let start = c .before .before .before .before .before .before 
 returns-3 : tie.Need-returns-3
 returns-3 c = block-out _ _ _ _ _ _ _ _ (c .before .before .if2 .left) (c .before .if3 .taken)
 
-add-if4 : tie.Need-add-if4
-add-if4 c = search needs
-
-add-if4-2 : tie.Need-add-if4-2
-add-if4-2 c = search needs
-
 returns-4 : tie.Need-returns-4
-returns-4 c = block-forth _ _ _ _ _ _ _ _ (c .before .if3 .left) (c .if4 .taken)
+returns-4 c = block-last _ _ _ _ _ _ _ _ refl (c .if3 .left)
 
-returns-5 : tie.Need-returns-5
-returns-5 c = block-back _ _ _ _ _ _ _ _ (c .before .if3 .left) (c .if4 .left)
-
-pub number-at-spec : {M : Type 1} → statement M
-number-at-spec =
+pub capacity-at-spec : {M : Type 1} → statement M
+capacity-at-spec =
     tie.close
     (tie.spec
     mul-beyond
@@ -100,7 +91,4 @@ number-at-spec =
     shared-slice-read-result-2
     cast-result-2
     returns-3
-    add-if4
-    add-if4-2
-    returns-4
-    returns-5)
+    returns-4)
