@@ -49,6 +49,7 @@ answer-says t ok stamp q =
       nonsaturating = stops .nonsaturating;
       relabels = stops .relabels;
       all = λ e. ap (λ (r : Run). r .counts) (whole e);
+      first = stops .first;
       stop = ap (λ (r : Run). intoSink t (r .state .flow)) (stops .part);
       most = most;
       reached = λ e. leb-true q (intoSink t (here .state .flow)) (marked-yes (reaches t q here) e);

@@ -1,5 +1,5 @@
 -- Document 02, CR 7, "Is there room for at least this many?": what the question returns, and what the work row holds afterwards.
-use Prim.Native.Nat.{ℕ, _+_, _*_, _≤_}
+use Prim.Native.Nat.{ℕ, _+_, _*_, _≤_, _<_}
 use mathlib.Core.Path.{_≡_}
 use mathlib.Core.Bool.{Bool, cond}
 use mathlib.Core.List.{List}
@@ -98,8 +98,8 @@ abbrev pub countsOf : Room → Counts
 countsOf a = record { saturating = a .saturating; nonsaturating = a .nonsaturating; relabels = a .relabels }
 
 -- What an answer says of the full answer: yes exactly where the full value is at least q; the counts are of the full run's first steps, or of all
--- of them where the answer is no; the value is the net flow into the sink after those steps: at most the full value, at least q where the answer is
--- yes, and the full value where it is no; D and K are the full run's.
+-- of them where the answer is no; before the last of them the net flow into the sink had not reached q; the value is that net flow after those steps:
+-- at most the full value, at least q where the answer is yes, and the full value where it is no; D and K are the full run's.
 pub record Says (t : Table) (q : ℕ) (a : Room) : Type 0 where
   pub yes : a .yes ≡ cond (leb q (value t (run t .state .flow))) 1 0
   pub part : countsOf a ≡ afterSteps t (steps (countsOf a)) .counts
@@ -107,6 +107,7 @@ pub record Says (t : Table) (q : ℕ) (a : Room) : Type 0 where
   pub nonsaturating : a .nonsaturating ≤ run t .counts .nonsaturating
   pub relabels : a .relabels ≤ run t .counts .relabels
   pub all : a .yes ≡ 0 → countsOf a ≡ run t .counts
+  pub first : (j : ℕ) → j < steps (countsOf a) → intoSink t (afterSteps t j .state .flow) < q
   pub stop : a .value ≡ intoSink t (afterSteps t (steps (countsOf a)) .state .flow)
   pub most : a .value ≤ value t (run t .state .flow)
   pub reached : a .yes ≡ 1 → q ≤ a .value

@@ -11,8 +11,8 @@ use mir.Syntax.{w64}
 use mir.Val.{toZ, ofZ}
 use Rattle.rows.specs.Row.{Node, atPlace, byPlace}
 use Rattle.rows.proofs.Rows.{length-places, at-places}
-use Rattle.network.specs.Network.{Network, Flow, nearEnd, farEnd, residualOver, inflow, outflow}
-use Rattle.network.proofs.Notions.{Sound, residual-over-ext}
+use Rattle.network.specs.Network.{Network, Flow, nearEnd, farEnd, residualOver, inflow, outflow, Sound}
+use Rattle.network.proofs.Notions.{residual-over-ext}
 use Rattle.network.proofs.Agree.{inflow-agree, outflow-agree, flow-agree}
 use Rattle.table.specs.Table.{tableOf, networkOf}
 use Rattle.table.specs.Accepted.{ArcRows}

@@ -7,8 +7,7 @@ use native.Mathlib.Omega.{arith}
 use lib.IntN.{ℤ, natAbs}
 use lib.Signed.{_≤ℤ_}
 use Rattle.rows.specs.Row.{atPlace}
-use Rattle.network.specs.Network.{Network, Flow, Cut, Least, Reached, Answer, inflow, outflow, leaving, entering}
-use Rattle.network.proofs.Notions.{Sound}
+use Rattle.network.specs.Network.{Network, Flow, Cut, Least, Reached, Answer, inflow, outflow, leaving, entering, Sound}
 use Rattle.network.proofs.Cuts.{reached-answer}
 use Rattle.reach.specs.Side.{marked, sideFrom}
 use Rattle.reach.proofs.Side.{side-reached}

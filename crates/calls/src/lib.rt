@@ -16,10 +16,8 @@ ghost use Rattle.asking.specs.Asking.{roomLeft, asking, Says};
 ghost use Rattle.openings.specs.Helping.{HelpsExactly};
 ghost use Rattle.openings.specs.Finding.{finding, leftOpeningsIn};
 ghost use Rattle.shorter.specs.Shorter.{shorterOf, leftPart, copied};
-ghost use lib.ListN.{length, take};
-ghost use Rattle.run.specs.Demands.{Best};
 ghost use Rattle.keeping.specs.SmallRows.{lentSmall};
-ghost use Rattle.smaller.specs.Reducing.{leftReduced, reducing};
+ghost use Rattle.smaller.specs.Reducing.{leftReduced, reducing, Reduces};
 ghost use Rattle.days.specs.Days.{lentDays};
 ghost use Rattle.days.specs.Month.{monthLeft, month};
 ghost use Rattle.days.specs.Promises.{EachDay};
@@ -346,8 +344,9 @@ pub extern "C" fn jorrabide_reduce(
         let table = lentBounded n s t tails heads capacities minimums in
         leftReduced r (after flow) (after side) (after work) (small .exit)
         ≡ reducing table stamp (before flow) (before side) (before work) (small .entry)) ⌝ }
-    ensures best { λ r. ⌜ (let table = lentTable n s t tails heads capacities in
-        r .answer .refusal ≡ 0 → Best table (take (length (before capacities)) (after flow)) (take n (after side)) (r .answer .value)) ⌝ }
+    ensures means { λ r. ⌜ (let small = lentSmall «small_tails» «small_heads» «small_capacities» «nodes_from» «arcs_from» in
+        let table = lentTable n s t tails heads capacities in
+        r .answer .refusal ≡ 0 → Reduces table (leftReduced r (after flow) (after side) (after work) (small .exit))) ⌝ }
 {
     smaller::reduce(
         n,
@@ -389,7 +388,8 @@ pub extern "C" fn jorrabide_solve_month(
     ensures exact { λ r. ⌜ (let days = lentDays starts nodes sources sinks stamps tails heads capacities minimums in
         monthLeft r (after flow) (after side) (after work) (after answers) ≡ month days (before flow) (before side) (before work) (before answers)) ⌝ }
     ensures each { λ r. ⌜ (let days = lentDays starts nodes sources sinks stamps tails heads capacities minimums in
-        r .refusal ≡ 0 → EachDay days (before flow) (before side) (before work) (after flow) (after side) (after work) (after answers) r) ⌝ }
+        r .refusal ≡ 0
+        → EachDay days (before flow) (before side) (before work) (before answers) (after flow) (after side) (after work) (after answers) r) ⌝ }
 {
     month::solve_month(
         starts,

@@ -26,8 +26,8 @@ use Rattle.report.specs.declared.Summary.{Summary}
 use Rattle.pen.specs.Printed.{digitsOf, further, spaced}
 use Rattle.pen.proofs.Digits.{digits-most, digits-below}
 use Rattle.report.specs.Printed.{markedNodes, numberLines, solvedText, refusedText}
-use Rattle.counter.specs.Desk.{summaryOf, zeros, TableText, solved, impossible, AnswerText, DeskAs, DeskText}
-use Rattle.counter.proofs.Solves.{Passes, accepted, few-nodes, few-arcs}
+use Rattle.counter.specs.Desk.{summaryOf, zeros, TableText, solved, impossible, AnswerText, DeskAs, DeskText, Passes}
+use Rattle.counter.proofs.Solves.{accepted, few-nodes, few-arcs}
 
 -- ---- numbers
 

@@ -24,17 +24,13 @@ use Rattle.solver.proofs.Solved.{fine-solving}
 use Rattle.pen.specs.Wrote.{Wrote}
 use Rattle.report.specs.Printed.{refusedText}
 use Rattle.planner.specs.Solving.{SignedLeft, leftWithSign, Bounding, impossible, found, BoundingAs, boundedVerdict, SolvesAs, Solves}
-use Rattle.counter.specs.Desk.{zeros, leftText, textBy, TableText, Printed}
+use Rattle.counter.specs.Desk.{zeros, leftText, textBy, TableText, Printed, Passes}
 use Rattle.counter.specs.Desk.{solved as of-solved, impossible as of-none}
 
 -- The one verdict that is fine.
 fine-is : (v : Verdict) → isFine v ≡ true → v ≡ Fine
 fine-is Fine e = refl
 fine-is (Refused name place) e = cc
-
--- No check refuses the table where there is room.
-abbrev pub Passes : BoundedTable → Type 0
-Passes b = isFine (boundedCheck b true) ≡ true
 
 module _ (b : BoundedTable) (ok : Passes b) where
   -- It is accepted,

@@ -20,7 +20,7 @@ use Rattle.verdicts.specs.Plain.{plainSolving}
 use Rattle.tally.specs.declared.Tally.{Tally}
 use Rattle.tally.specs.Sums.{counted, tallied, noTally}
 use Rattle.days.specs.Days.{Days, tables, startOf, arcsOf, marksAt, marksOf, dayTable, nine, Held, held, solvedDay, partLeft, dayLeft, withDay, nextDay, firstDays}
-use Rattle.days.specs.Promises.{needOf, greater, greatestNeed}
+use Rattle.days.specs.Promises.{needOf, greater, greatestNeed, Untouched}
 use Rattle.days.specs.Ready.{Ready, Countable}
 use Rattle.parts.proofs.Parts.{placed-length, placed-part, placed-before, placed-after}
 use Rattle.days.proofs.Solvings.{plain-value, plain-long, need-fits, SameButWork, same-but-work}
@@ -109,9 +109,7 @@ module _ (d : Days) (flow side work answers : List ℕ) (ready : Ready d (length
 
   -- What holds after k days: the days to come have their rows as lent, the days that are done as if given by themselves.
   pub record After (k : ℕ) : Type 0 where
-    pub flow-long : length (heldAt k .flow) ≡ length flow
-    pub side-long : length (heldAt k .side) ≡ length side
-    pub answers-long : length (heldAt k .answers) ≡ length answers
+    pub untouched : Untouched d flow side answers (heldAt k .flow) (heldAt k .side) (heldAt k .answers)
     pub need-inside : greatestNeed d k flow side work ≤ length work
     pub work-is : heldAt k .work ≡ cleared (greatestNeed d k flow side work) work
     pub countable : Countable k (heldAt k .tally)
@@ -150,23 +148,24 @@ module _ (d : Days) (flow side work answers : List ℕ) (ready : Ready d (length
     flow-size : length (here .flow) ≡ startOf d (k + 1) - startOf d k
     flow-size =
         plain-long (dayTable d k) (atPlace (d .stamps) k) (arcsOf d k (heldAt k .flow)) (marksOf k (heldAt k .side)) (heldAt k .work) .flow-long
-        ∙ mid-len (startOf d k) (startOf d (k + 1)) (heldAt k .flow) (omega (arith, so .flow-long, starts-within d _ _ _ ready (k + 1) (omega arith), ready .for-flow))
+        ∙ mid-len (startOf d k) (startOf d (k + 1)) (heldAt k .flow)
+        (omega (arith, so .untouched .flow-long, starts-within d _ _ _ ready (k + 1) (omega arith), ready .for-flow))
 
     -- and its marks 512.
     side-size : length (here .side) ≡ (marksAt k + 512) - marksAt k
     side-size =
         plain-long (dayTable d k) (atPlace (d .stamps) k) (arcsOf d k (heldAt k .flow)) (marksOf k (heldAt k .side)) (heldAt k .work) .side-long
-        ∙ mid-len (marksAt k) (marksAt k + 512) (heldAt k .side) (omega (arith, so .side-long, ready .for-side))
+        ∙ mid-len (marksAt k) (marksAt k + 512) (heldAt k .side) (omega (arith, so .untouched .side-long, ready .for-side))
 
     -- The three parts are inside their rows.
     flow-inside : startOf d (k + 1) ≤ length (heldAt k .flow)
-    flow-inside = omega (arith, so .flow-long, starts-within d _ _ _ ready (k + 1) (omega arith), ready .for-flow)
+    flow-inside = omega (arith, so .untouched .flow-long, starts-within d _ _ _ ready (k + 1) (omega arith), ready .for-flow)
 
     side-inside : marksAt k + 512 ≤ length (heldAt k .side)
-    side-inside = omega (arith, so .side-long, ready .for-side)
+    side-inside = omega (arith, so .untouched .side-long, ready .for-side)
 
     answers-inside : 9 * k + 9 ≤ length (heldAt k .answers)
-    answers-inside = omega (arith, so .answers-long, ready .for-answers)
+    answers-inside = omega (arith, so .untouched .answers-long, ready .for-answers)
 
     nine-size : length (nine (here .answer)) ≡ (9 * k + 9) - 9 * k
     nine-size = omega arith
@@ -222,13 +221,42 @@ module _ (d : Days) (flow side work answers : List ℕ) (ready : Ready d (length
     need-next =
         greater-fits (greatestNeed d k flow side work) (needOf d k flow side work) (length work) (so .need-inside) (need-fits (dayTable d k) (atPlace (d .stamps) k) (arcsOf d k flow) (marksOf k side) work)
 
+    -- What no day writes stays.
+    untouched-next : Untouched d flow side answers (placed (startOf d k) (startOf d (k + 1)) (here .flow) (heldAt k .flow))
+        (placed (marksAt k) (marksAt k + 512) (here .side) (heldAt k .side)) (placed (9 * k) (9 * k + 9) (nine (here .answer)) (heldAt k .answers))
+    untouched-next =
+        record {
+          flow-before =
+              placed-before (startOf d k) (startOf d (k + 1)) (heldAt k .flow) (here .flow) (ready .rise k more) flow-inside flow-size
+              0 (startOf d 0) (omega arith) (starts-rise d _ _ _ ready 0 k (omega arith) (omega arith))
+              ∙ so .untouched .flow-before;
+          flow-behind =
+              placed-after (startOf d k) (startOf d (k + 1)) (heldAt k .flow) (here .flow) (ready .rise k more) flow-inside flow-size
+              (length (d .capacities)) (length flow) (starts-within d _ _ _ ready (k + 1) (omega arith))
+              ∙ so .untouched .flow-behind;
+          side-behind =
+              placed-after (marksAt k) (marksAt k + 512) (heldAt k .side) (here .side) (omega arith) side-inside side-size
+              (512 * tables d) (length side) (omega arith)
+              ∙ so .untouched .side-behind;
+          answers-behind =
+              placed-after (9 * k) (9 * k + 9) (heldAt k .answers) (nine (here .answer)) (omega arith) answers-inside nine-size
+              (9 * tables d) (length answers) (omega arith)
+              ∙ so .untouched .answers-behind;
+          flow-long =
+              placed-length (startOf d k) (startOf d (k + 1)) (heldAt k .flow) (here .flow) (ready .rise k more) flow-inside flow-size
+              ∙ so .untouched .flow-long;
+          side-long =
+              placed-length (marksAt k) (marksAt k + 512) (heldAt k .side) (here .side) (omega arith) side-inside side-size ∙ so .untouched .side-long;
+          answers-long =
+              placed-length (9 * k) (9 * k + 9) (heldAt k .answers) (nine (here .answer)) (omega arith) answers-inside nine-size
+              ∙ so .untouched .answers-long;
+        }
+
     next-after : After (suc k)
     unfolding firstDays nextDay
     next-after =
         record {
-          flow-long = placed-length (startOf d k) (startOf d (k + 1)) (heldAt k .flow) (here .flow) (ready .rise k more) flow-inside flow-size ∙ so .flow-long;
-          side-long = placed-length (marksAt k) (marksAt k + 512) (heldAt k .side) (here .side) (omega arith) side-inside side-size ∙ so .side-long;
-          answers-long = placed-length (9 * k) (9 * k + 9) (heldAt k .answers) (nine (here .answer)) (omega arith) answers-inside nine-size ∙ so .answers-long;
+          untouched = untouched-next;
           need-inside = need-next;
           work-is = work-next;
           countable =
@@ -247,9 +275,16 @@ module _ (d : Days) (flow side work answers : List ℕ) (ready : Ready d (length
   unfolding firstDays greatestNeed
   none-after =
       record {
-        flow-long = refl;
-        side-long = refl;
-        answers-long = refl;
+        untouched =
+            record {
+              flow-before = refl;
+              flow-behind = refl;
+              side-behind = refl;
+              answers-behind = refl;
+              flow-long = refl;
+              side-long = refl;
+              answers-long = refl;
+            };
         need-inside = omega arith;
         work-is = refl;
         countable = record { tables-few = omega arith; total-small = omega arith };
@@ -270,7 +305,7 @@ module _ (d : Days) (flow side work answers : List ℕ) (ready : Ready d (length
   pub still-ready : (k : ℕ) → k ≤ tables d → (h : Held) → h ≡ heldAt k → Ready d (length (h .flow)) (length (h .side)) (length (h .answers))
   still-ready k l h same =
       let so = after-days k l in
-      rw (same, so .flow-long, so .side-long, so .answers-long) ready
+      rw (same, so .untouched .flow-long, so .untouched .side-long, so .untouched .answers-long) ready
 
   -- and the sums small.
   pub still-countable : (k : ℕ) → k ≤ tables d → (h : Held) → h ≡ heldAt k → Countable k (h .tally)

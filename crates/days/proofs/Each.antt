@@ -55,7 +55,7 @@ other-work t a flow side work other m = record { best = m .best; bounded = m .bo
 -- What is held after the last day keeps the promise of each day.
 pub each-day : (d : Days) (flow side work answers : List ℕ) → Ready d (length flow) (length side) (length answers)
     → (h : Held) → h ≡ firstDays d (tables d) (held noTally flow side work answers)
-    → EachDay d flow side work (h .flow) (h .side) (h .work) (h .answers) (monthSums (h .tally))
+    → EachDay d flow side work answers (h .flow) (h .side) (h .work) (h .answers) (monthSums (h .tally))
 each-day d flow side work answers ready h same =
     rw same
     (record {
@@ -70,6 +70,7 @@ each-day d flow side work answers ready h same =
           (λ j l. ap (λ (x : Left). eqb (x .answer .refusal) 0) (sym (by-itself j l)))
           (λ j l. ap (λ (x : Left). x .answer .value) (sym (by-itself j l)))
           (so .counts .summed);
+      untouched = so .untouched;
     })
   where
     last : Held
@@ -87,7 +88,7 @@ each-day d flow side work answers ready h same =
 -- The whole promise.
 abbrev pub Promised : Days → (flow side work answers : List ℕ) → MonthLeft → Type 0
 Promised d flow side work answers l =
-    (l ≡ month d flow side work answers) × (l .month .refusal ≡ 0 → EachDay d flow side work (l .flow) (l .side) (l .work) (l .answers) (l .month))
+    (l ≡ month d flow side work answers) × (l .month .refusal ≡ 0 → EachDay d flow side work answers (l .flow) (l .side) (l .work) (l .answers) (l .month))
 
 module _ (d : Days) (flow side work answers : List ℕ) (v : Verdict) (found : v ≡ monthVerdict d (length flow) (length side) (length answers)) where
   -- Where the checks refuse, the month is that refusal, and the rows stay.

@@ -2,7 +2,7 @@
 use Prim.Native.Nat.{_≤_}
 use native.Mathlib.Omega.{arith}
 use Rattle.rows.specs.Sum.{sum}
-use Rattle.network.proofs.Notions.{Sound}
+use Rattle.network.specs.Network.{Sound}
 use Rattle.table.specs.Table.{arcs, capacity}
 use Rattle.table.specs.Accepted.{Accepted}
 use Rattle.run.proofs.Whole.{capacity-in-all}

@@ -10,8 +10,7 @@ use Rattle.rows.specs.Row.{atPlace}
 use Rattle.rows.specs.Sum.{only}
 use Rattle.rows.proofs.Rows.{zero-at}
 use Rattle.rows.proofs.Sums.{sum-zero, only-of-zero}
-use Rattle.network.specs.Network.{Network, Flow, Maximum, inflow, outflow}
-use Rattle.network.proofs.Notions.{Sound}
+use Rattle.network.specs.Network.{Network, Flow, Maximum, inflow, outflow, Sound}
 use Rattle.shortest.specs.Augment.{boundNetwork, settled}
 use Rattle.shortest.specs.Rows.{Ready}
 use Rattle.shortest.proofs.Settling.{settled-answer}

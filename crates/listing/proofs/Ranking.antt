@@ -1,15 +1,17 @@
 -- Numbers that pass a test, and the rank of each among them.
 use Prim.Native.Nat.{ℕ, zero, suc, _+_, _-_, _≤_, _<_}
-use mathlib.Core.Path.{_≡_, refl, ap, sym, _∙_, subst}
+use mathlib.Core.Path.{_≡_, refl, ap, sym, _∙_, subst, subst⁻¹}
 use mathlib.Core.Bool.{Bool, true, false, cond}
 use mathlib.Core.List.{List, [], _∷_, _++_, map}
 use native.Mathlib.Omega.{arith}
+use borrow.Author.Tests.{ltb-true, ltb-false}
+use lib.Dec.{ltb}
 use lib.ListN.{length, set, take, drop, List·getD-append}
-use lib.Seq.{getD-at, take-length}
+use lib.Seq.{getD-at, take-at, take-length}
 use Rattle.rows.specs.Row.{atPlace}
 use Rattle.rows.specs.Sum.{sum, only}
 use Rattle.rows.proofs.Sums.{by-equal, by-test, only-of-zero}
-use Rattle.listing.specs.Passing.{passing, filledWith}
+use Rattle.listing.specs.Passing.{passing, filledWith, Lists}
 use Rattle.listing.proofs.Listing.{copy-next, passing-no, passing-yes, count-next, passing-rises}
 
 -- A row of f at each number of a list.
@@ -85,6 +87,35 @@ module _ (test : ℕ → Bool) where
           (λ other.
           let h′ : q < rank n = omega (arith, count-next test n e) in
           subst Is (sym (List·getD-append (passing test n) (n ∷ []) 0 q h′)) (old (earlier h′)))))
+
+  -- The numbers that pass are listed, and no others, rising.
+  pub passing-lists : (n : ℕ) → Lists test n (passing test n)
+  passing-lists n =
+      record {
+        each = λ i l. (ranked-at n i l .below, ranked-at n i l .passes);
+        all = λ k l e. (rank k, rank-below k n e l, at-rank k n e l);
+        rising =
+            λ i j l r.
+            let low = ranked-at n i (omega arith) in
+            let high = ranked-at n j r in
+            by-test (ltb (atPlace (passing test n) i) (atPlace (passing test n) j))
+            (λ e. ltb-true _ _ e)
+            (λ e.
+            absurd
+            (omega (
+              arith,
+              low .ranked,
+              high .ranked,
+              passing-rises test (atPlace (passing test n) j) (atPlace (passing test n) i) (ltb-false _ _ e),
+            )));
+      }
+
+  -- A row with such a list in its first places has it in its filled part.
+  pub filled-lists : (n other count : ℕ) (row : List ℕ) → other ≡ n → count ≡ length (passing test other)
+      → Lists test n (take count (filledWith (passing test other) row))
+  filled-lists n other count row same counted =
+      subst⁻¹ (Lists test n) (take-at (passing test other) (drop (length (passing test other)) row) count (sym counted))
+      (subst (λ k. Lists test n (passing test k)) (sym same) (passing-lists n))
 
   -- A sum over the numbers that pass is a sum over their ranks.
   pub sum-ranks : (f : ℕ → ℕ) (p p′ : ℕ → Bool) (m : ℕ) → ((k : ℕ) → k < m → test k ≡ true → p′ (rank k) ≡ p k)

@@ -421,7 +421,8 @@ pub fn solve_month(
     ensures exact { λ r. ⌜ (let days = lentDays starts nodes sources sinks stamps tails heads capacities minimums in
         monthLeft r (after flow) (after side) (after work) (after answers) ≡ month days (before flow) (before side) (before work) (before answers)) ⌝ }
     ensures each { λ r. ⌜ (let days = lentDays starts nodes sources sinks stamps tails heads capacities minimums in
-        r .refusal ≡ 0 → EachDay days (before flow) (before side) (before work) (after flow) (after side) (after work) (after answers) r) ⌝ }
+        r .refusal ≡ 0
+        → EachDay days (before flow) (before side) (before work) (before answers) (after flow) (after side) (after work) (after answers) r) ⌝ }
 {
     match month_verdict(
         starts,

@@ -6,8 +6,8 @@ use lib.Dec.{eqb}
 use Rattle.rows.specs.Sum.{only}
 use Rattle.rows.specs.Row.{Node}
 use Rattle.rows.proofs.Sums.{sum-ext}
-use Rattle.network.specs.Network.{Network, Flow, inflow, outflow, nearEnd, farEnd}
-use Rattle.network.proofs.Notions.{Sound, near-end-node, far-end-node, residual-over-ext}
+use Rattle.network.specs.Network.{Network, Flow, inflow, outflow, nearEnd, farEnd, Sound}
+use Rattle.network.proofs.Notions.{near-end-node, far-end-node, residual-over-ext}
 use Rattle.network.proofs.Steps.{State}
 use Rattle.network.proofs.Facts.{Facts}
 

@@ -7,8 +7,8 @@ use Rattle.rows.specs.Sum.{sum}
 use Rattle.rows.proofs.Functions.{nodes}
 use Rattle.rows.specs.Row.{Node}
 use Rattle.rows.proofs.Sums.{by-equal, sum-mono, sum-by-key, nodes-mono}
-use Rattle.network.specs.Network.{Network, inflow}
-use Rattle.network.proofs.Notions.{Sound, Preflow}
+use Rattle.network.specs.Network.{Network, inflow, Sound}
+use Rattle.network.proofs.Notions.{Preflow}
 
 -- All excesses of a preflow together are at most all capacities.
 pub excess-in-all : (N : Network) → Sound N → (flow excess : ℕ → ℕ) → Preflow N flow excess → nodes (N .n) excess ≤ sum (N .m) (N .capacity)

@@ -1,24 +1,12 @@
--- What only proofs speak of: sound networks, preflows and sets that nothing residual leaves, with what follows from them at once.
+-- What only proofs speak of: preflows and residual arcs out of a node; with them what follows at once from a sound network.
 use Prim.Native.Nat.{ℕ, _+_, _-_, _≤_, _<_}
 use mathlib.Core.Path.{_≡_, refl, ap, ap₂, sym}
 use mathlib.Core.Bool.{Bool, true, false, not, _&&_}
+use native.Mathlib.Omega.{arith}
 use borrow.Author.Tests.{eq-eqb, ne-eqb}
 use lib.Dec.{eqb}
 use Rattle.rows.specs.Row.{Node}
-use Rattle.network.specs.Network.{Network, Inner, inflow, outflow, nearEnd, farEnd, residualOver, isInner}
-
--- Source and sink are different nodes, every arc goes from a node to a node, and none is a loop.
-pub record Sound (N : Network) : Type 0 where
-  pub source : Node (N .n) (N .s)
-  pub sink : Node (N .n) (N .t)
-  pub apart : N .s ≡ N .t → ⊥
-  pub tails : (k : ℕ) → k < N .m → Node (N .n) (N .tail k)
-  pub heads : (k : ℕ) → k < N .m → Node (N .n) (N .head k)
-  pub loopless : (k : ℕ) → k < N .m → N .tail k ≡ N .head k → ⊥
-
--- No arc has a minimum above 0.
-abbrev pub NoMinimums : Network → Type 0
-NoMinimums N = (k : ℕ) → k < N .m → N .low k ≡ 0
+use Rattle.network.specs.Network.{Network, Inner, inflow, outflow, nearEnd, farEnd, residualOver, isInner, Sound}
 
 -- A flow within minimum and capacity, whose inflow at an inner node is its outflow and the node's excess; source and sink count as 0.
 pub record Preflow (N : Network) (flow excess : ℕ → ℕ) : Type 0 where
@@ -35,11 +23,6 @@ pub record ResidualFrom (N : Network) (flow : ℕ → ℕ) (i : ℕ) : Type 0 wh
   pub below : place < N .m
   pub from : nearEnd N place way ≡ i
   pub left : 0 < residualOver N flow place way
-
--- No residual arc leaves X.
-abbrev pub Closed : Network → (ℕ → ℕ) → (ℕ → Bool) → Type 0
-Closed N flow X =
-    (k : ℕ) (b : Bool) → k < N .m → 0 < residualOver N flow k b → X (nearEnd N k b) ≡ true → X (farEnd N k b) ≡ true
 
 -- The end that an arc is taken from is a node.
 pub near-end-node : (N : Network) → Sound N → (k : ℕ) (b : Bool) → k < N .m → Node (N .n) (nearEnd N k b)
@@ -75,5 +58,5 @@ sink-test N i e = last (not (eqb i (N .s))) (eqb i (N .t)) (eq-eqb i (N .t) e)
 
 -- A residual depends on the flow at its place alone.
 pub residual-over-ext : (N : Network) (flow other : ℕ → ℕ) (k : ℕ) (b : Bool) → flow k ≡ other k → residualOver N flow k b ≡ residualOver N other k b
-residual-over-ext N flow other k true e = ap (λ x. N .capacity k - x) e
-residual-over-ext N flow other k false e = ap (λ x. x - N .low k) e
+residual-over-ext N flow other k true e = omega (arith, e)
+residual-over-ext N flow other k false e = omega (arith, e)

@@ -9,8 +9,8 @@ use Rattle.rows.specs.Sum.{sum, only}
 use Rattle.rows.specs.Row.{Node}
 use Rattle.rows.proofs.Functions.{put}
 use Rattle.rows.proofs.Sums.{by-test, by-equal, only-true, only-false, only-plus, put-same, put-other, sum-change}
-use Rattle.network.specs.Network.{Network, Inner, inflow, outflow, nearEnd, farEnd, residualOver, isInner}
-use Rattle.network.proofs.Notions.{Sound, Preflow, far-end-node, ends-differ, inner-test, source-test, sink-test, residual-over-ext}
+use Rattle.network.specs.Network.{Network, Inner, inflow, outflow, nearEnd, farEnd, residualOver, isInner, Sound}
+use Rattle.network.proofs.Notions.{Preflow, far-end-node, ends-differ, inner-test, source-test, sink-test, residual-over-ext}
 use Rattle.network.proofs.Steps.{State, moved, taken, brought, push, Chosen, Eligible, amount}
 use Rattle.network.proofs.Gaps.{Valid}
 use Rattle.network.proofs.Facts.{Facts, chosen-inner}

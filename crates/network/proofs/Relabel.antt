@@ -4,8 +4,7 @@ use mathlib.Core.Path.{refl, ap, sym, _∙_}
 use native.Mathlib.Omega.{arith}
 use Rattle.rows.proofs.Functions.{put}
 use Rattle.rows.proofs.Sums.{by-equal, put-same, put-other}
-use Rattle.network.specs.Network.{Network, nearEnd, farEnd}
-use Rattle.network.proofs.Notions.{Sound, NoMinimums}
+use Rattle.network.specs.Network.{Network, nearEnd, farEnd, Sound, NoMinimums}
 use Rattle.network.proofs.Steps.{State, relabel, Chosen, NewLabel}
 use Rattle.network.proofs.Gaps.{Valid, EndLabels, label-bound}
 use Rattle.network.proofs.Facts.{Facts, chosen-inner}

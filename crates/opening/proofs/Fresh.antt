@@ -5,8 +5,7 @@ use mathlib.Core.List.{List}
 use native.Mathlib.Omega.{arith}
 use lib.ListN.{length}
 use Rattle.rows.specs.Row.{atPlace}
-use Rattle.network.specs.Network.{Flow, Answer}
-use Rattle.network.proofs.Notions.{Sound}
+use Rattle.network.specs.Network.{Flow, Answer, Sound}
 use Rattle.table.specs.Table.{Table, arcs, networkOf}
 use Rattle.table.specs.Accepted.{Accepted}
 use Rattle.reach.specs.Side.{marked, sideOf}

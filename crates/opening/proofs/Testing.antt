@@ -10,8 +10,7 @@ use lib.Dec.{leb}
 use borrow.Author.Tests.{leb-true, le-leb, eqb-true, eq-eqb, ne-eqb, not-true}
 use Rattle.rows.specs.Row.{atPlace}
 use Rattle.rows.proofs.Sums.{by-test, both-true, by-equal}
-use Rattle.network.specs.Network.{Inner, Flow, inflow, outflow}
-use Rattle.network.proofs.Notions.{Sound}
+use Rattle.network.specs.Network.{Inner, Flow, inflow, outflow, Sound}
 use Rattle.network.proofs.Cuts.{reached-answer}
 use Rattle.table.specs.Table.{Table, arcs, capacity, networkOf}
 use Rattle.table.specs.Accepted.{Accepted}

@@ -1,5 +1,5 @@
 -- From the checks to the promise: solving's demands and document 02's theorem of a table that nothing refuses.
-use Prim.Native.Nat.{ℕ}
+use Prim.Native.Nat.{ℕ, suc}
 use mathlib.Core.Path.{_≡_, refl, sym, ap, subst⁻¹, _∙_}
 use mathlib.Core.List.{List}
 use native.Mathlib.Omega.{arith}
@@ -20,18 +20,43 @@ use Rattle.run.proofs.Networks.{accepted-sound, no-minimums}
 use Rattle.run.proofs.Answers.{run-best}
 use Rattle.solver.specs.Solving.{left, hasRoom, refusal, solution, solved, Meets}
 use Rattle.solver.proofs.Solved.{Roomy, room-roomy, solved-meets}
-use Rattle.raising.proofs.Raising.{raising-value}
+use Rattle.listing.proofs.Ranking.{filled-lists}
+use Rattle.raising.proofs.Raising.{raising-value, raising-never}
 use Rattle.openings.specs.declared.Openings.{Openings}
-use Rattle.openings.specs.Helping.{flowOf, HelpsExactly}
-use Rattle.openings.specs.Finding.{LeftOpenings, leftOpenings, openingsWith, listsVerdict, findingVerdict, found, findingAs, finding}
+use Rattle.openings.specs.Helping.{flowOf, sourceNodes, sinkNodes, helps, helpingPlaces, HelpsExactly}
+use Rattle.openings.specs.Finding.{LeftOpenings, HoldsLists, leftOpenings, openingsWith, listsVerdict, findingVerdict, found, findingAs, finding}
+use Rattle.openings.proofs.Sides.{side-long, sinks-long}
 use Rattle.verdicts.specs.Plain.{plainVerdict}
 
--- Document 02's theorem of every accepted table: raising an arc raises the value by one exactly where it is listed.
+-- Document 02's theorem of every accepted table: raising an arc raises the value by one exactly where it is listed, and never elsewhere.
 pub helps-exactly : (t : Table) → Accepted t → HelpsExactly t
-helps-exactly t ok k below =
+helps-exactly t ok =
     let sound = accepted-sound t ok in
-    raising-value (networkOf t) sound (no-minimums t) (atPlace (flowOf t)) (marked (sideOf t (flowOf t))) (run-best t ok .answer) (run-best t ok .reached)
-    (marked (sinkSideOf t (flowOf t))) (sink-side-reached t sound (flowOf t)) k below
+    let drains = sink-side-reached t sound (flowOf t) in
+    let best = run-best t ok in
+    record {
+      one =
+          raising-value (networkOf t) sound (no-minimums t) (atPlace (flowOf t)) (marked (sideOf t (flowOf t))) (best .answer) (best .reached)
+          (marked (sinkSideOf t (flowOf t))) drains;
+      never =
+          raising-never (networkOf t) sound (no-minimums t) (atPlace (flowOf t)) (marked (sideOf t (flowOf t))) (best .answer) (best .reached)
+          (marked (sinkSideOf t (flowOf t))) drains;
+    }
+
+-- The three lists of an accepted table.
+found-lists : (t : Table) → Accepted t → (stamp : ℕ) (flow side work sources sinks places : List ℕ)
+    → HoldsLists t (found t stamp flow side work sources sinks places)
+unfolding found
+found-lists t ok stamp flow side work sources sinks places =
+    record {
+      sources =
+          filled-lists (marked (sideOf t (flowOf t))) (suc (t .nodes)) (suc (length (sideOf t (flowOf t)))) (length (sourceNodes t))
+          sources (ap suc (side-long t ok (flowOf t))) refl;
+      sinks =
+          filled-lists (marked (sinkSideOf t (flowOf t))) (suc (t .nodes)) (suc (length (sinkSideOf t (flowOf t)))) (length (sinkNodes t))
+          sinks (ap suc (sinks-long t ok (flowOf t))) refl;
+      places = filled-lists (helps t) (arcs t) (length (t .tails)) (length (helpingPlaces t)) places (sym (ok .rows .capacities-long)) refl;
+    }
 
 -- Where two verdicts refuse nothing, the first does not.
 first-fine : (a b : Verdict) → orElse a b ≡ Fine → a ≡ Fine
@@ -84,4 +109,19 @@ module _ (b : BoundedTable) (stamp : ℕ) (flow side work sources sinks places :
           let ok = fine-accepted Fine (sym (first-fine _ _ e)) refl in
           let parts = ap (λ (x : LeftOpenings). left (x .openings .answer) (x .flow) (x .side) (x .work)) (same ∙ ap by e) ∙ solved-parts (b .table) stamp flow side work in
           (subst⁻¹ (Meets (b .table)) parts (solved-meets (b .table) stamp flow side work ok), helps-exactly (b .table) ok)
+      go (Refused name place) e = absurd (number-positive name (ap (λ (x : LeftOpenings). x .openings .answer .refusal) (sym (same ∙ ap by e)) ∙ none))
+
+  -- Where nothing is refused, the three lists hold what they should, rising.
+  pub finding-lists : (l : LeftOpenings) → l ≡ finding b stamp flow side work sources sinks places → l .openings .answer .refusal ≡ 0 → HoldsLists (b .table) l
+  unfolding finding findingAs
+  finding-lists l same none = go (findingVerdict b (length flow) (length side) (length work) (length sources) (length sinks) (length places)) refl
+    where
+      by : Verdict → LeftOpenings
+      by v = findingAs v (b .table) stamp flow side work sources sinks places
+
+      go : (v : Verdict) → findingVerdict b (length flow) (length side) (length work) (length sources) (length sinks) (length places) ≡ v
+          → HoldsLists (b .table) l
+      go Fine e =
+          subst⁻¹ (HoldsLists (b .table)) (same ∙ ap by e)
+          (found-lists (b .table) (fine-accepted Fine (sym (first-fine _ _ e)) refl) stamp flow side work sources sinks places)
       go (Refused name place) e = absurd (number-positive name (ap (λ (x : LeftOpenings). x .openings .answer .refusal) (sym (same ∙ ap by e)) ∙ none))

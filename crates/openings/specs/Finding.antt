@@ -1,10 +1,10 @@
 -- Document 02, CR 13, the first call: what it answers, and what the lent rows hold afterwards.
-use Prim.Native.Nat.{ℕ}
+use Prim.Native.Nat.{ℕ, suc}
 use mathlib.Core.Bool.{Bool, cond, not, _&&_}
 use mathlib.Core.Path.{_≡_}
 use mathlib.Core.List.{List}
 use lib.Dec.{leb}
-use lib.ListN.{length}
+use lib.ListN.{length, take}
 use Rattle.rows.specs.Lent.{LentRow, after}
 use Rattle.rows.specs.Row.{cleared}
 use Rattle.table.specs.Table.{Table, arcs}
@@ -17,9 +17,10 @@ use Rattle.verdicts.specs.Plain.{plainVerdict}
 use Rattle.arcs.specs.Work.{workNeed}
 use Rattle.solver.specs.declared.Answer.{Answer}
 use Rattle.solver.specs.Solving.{refusal, solution, solved}
-use Rattle.listing.specs.Passing.{filledWith}
+use Rattle.reach.specs.Side.{marked, sideOf, sinkSideOf}
+use Rattle.listing.specs.Passing.{filledWith, Lists}
 use Rattle.openings.specs.declared.Openings.{Openings}
-use Rattle.openings.specs.Helping.{nodesIn, placesIn, sourceNodes, sinkNodes, helpingPlaces}
+use Rattle.openings.specs.Helping.{nodesIn, placesIn, flowOf, helps, sourceNodes, sinkNodes, helpingPlaces}
 
 -- What the call returns, and what the six rows lent to it hold afterwards.
 pub record LeftOpenings : Type 0 where
@@ -75,6 +76,12 @@ findingAs (Refused name place) t stamp flow side work sources sinks places =
 unfoldable pub finding : BoundedTable → (stamp : ℕ) → (flow side work sources sinks places : List ℕ) → LeftOpenings
 finding b stamp flow side work sources sinks places =
     findingAs (findingVerdict b (length flow) (length side) (length work) (length sources) (length sinks) (length places)) (b .table) stamp flow side work sources sinks places
+
+-- What the lists hold in their filled places: exactly the source side, the nodes that reach the sink, and the places that help, each rising.
+pub record HoldsLists (t : Table) (l : LeftOpenings) : Type 0 where
+  pub sources : Lists (marked (sideOf t (flowOf t))) (suc (t .nodes)) (take (l .openings .sources) (l .sources))
+  pub sinks : Lists (marked (sinkSideOf t (flowOf t))) (suc (t .nodes)) (take (l .openings .sinks) (l .sinks))
+  pub places : Lists (helps t) (arcs t) (take (l .openings .places) (l .places))
 
 -- ---- how the code comes to it: for the contracts of private functions
 

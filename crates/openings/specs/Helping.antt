@@ -1,6 +1,7 @@
 -- Document 02, CR 13: the places whose opening would help, the source side and the nodes that reach the sink, each as a list, rising.
 use Prim.Native.Nat.{ℕ, suc, _<_}
-use mathlib.Core.Bool.{Bool, cond, _&&_}
+use mathlib.Core.Path.{_≡_}
+use mathlib.Core.Bool.{Bool, false, cond, _&&_}
 use mathlib.Core.List.{List}
 use lib.ListN.{length}
 use Rattle.rows.specs.Row.{atPlace}
@@ -8,7 +9,7 @@ use Rattle.table.specs.Table.{Table, arcs, networkOf}
 use Rattle.reach.specs.Side.{marked, sideOf, sinkSideOf}
 use Rattle.run.specs.Phase.{run}
 use Rattle.listing.specs.Passing.{passing}
-use Rattle.raising.specs.Raising.{RisesBy}
+use Rattle.raising.specs.Raising.{Rises, RisesBy}
 
 -- The marked nodes, rising. The number 0 is no node's, and has no mark.
 abbrev pub nodesIn : (marks : List ℕ) → List ℕ
@@ -42,6 +43,8 @@ helps t k = helpsFrom (sideOf t (flowOf t)) (sinkSideOf t (flowOf t)) (t .tails)
 abbrev pub helpingPlaces : Table → List ℕ
 helpingPlaces t = placesIn (sideOf t (flowOf t)) (sinkSideOf t (flowOf t)) (t .tails) (t .heads)
 
--- What document 02 asks to be proved of a table: raising one arc by one unit raises the value by one exactly where it helps; elsewhere the value does not move.
-abbrev pub HelpsExactly : Table → Type 0
-HelpsExactly t = (k : ℕ) → k < arcs t → RisesBy (networkOf t) (atPlace (flowOf t)) k (cond (helps t k) 1 0)
+-- What document 02 asks to be proved of a table: raising one arc by one unit raises the value by one exactly where it helps; elsewhere the value does
+-- not move, however much the arc is raised.
+pub record HelpsExactly (t : Table) : Type 0 where
+  pub one : (k : ℕ) → k < arcs t → RisesBy (networkOf t) (atPlace (flowOf t)) k (cond (helps t k) 1 0)
+  pub never : (k : ℕ) → k < arcs t → helps t k ≡ false → (units : ℕ) → Rises (networkOf t) (atPlace (flowOf t)) k units 0

@@ -10,11 +10,10 @@ use lib.Dec.{eqb, ltb}
 use Rattle.rows.specs.Row.{atPlace}
 use Rattle.rows.specs.Sum.{sum, only}
 use Rattle.rows.proofs.Sums.{by-test, only-true, only-false, only-le, only-mono, sum-term, sum-mono, sum-rise, sum-bound, sum-zero}
-use Rattle.network.specs.Network.{Network, Flow, Value, inflow, outflow}
-use Rattle.network.proofs.Notions.{Sound}
-use Rattle.pieces.proofs.Silent.{Silent, silent-outflow, sink-gets}
+use Rattle.network.specs.Network.{Network, Flow, Value, inflow, outflow, Sound}
+use Rattle.pieces.proofs.Silent.{silent-outflow, sink-gets}
 use Rattle.pieces.specs.Chains.{Found, Piece, remaining, onward, startAt, walk, foundIn, pieceOf, next, without, pieces, numbers}
-use Rattle.pieces.specs.Meaning.{Links, Proper, AllProper, Whole, adds, brings, carried, inChains}
+use Rattle.pieces.specs.Meaning.{Links, Proper, AllProper, Whole, adds, brings, carried, inChains, Silent}
 use Rattle.pieces.proofs.Notions.{AtLeast, FlowLeft, Drawn}
 use Rattle.pieces.proofs.Lowest.{by-cond, onward-none, remaining-none}
 use Rattle.pieces.proofs.Walks.{full-at, simple-short}

@@ -16,10 +16,10 @@ use Rattle.run.proofs.Beginning.{start-flow-at}
 use Rattle.run.proofs.Whole.{begin-facts, course}
 use Rattle.run.proofs.Answers.{run-best, run-fits}
 use Rattle.pieces.specs.Chains.{remaining, onward, chainsOf, numbers}
-use Rattle.pieces.specs.Meaning.{Whole, nextOf, LeftOf, whole-flow, piece-less}
+use Rattle.pieces.specs.Meaning.{Whole, nextOf, LeftOf, whole-flow, piece-less, Silent}
 use Rattle.pieces.proofs.Notions.{FlowLeft, Drawn}
 use Rattle.pieces.proofs.Pieces.{without-flow, next-piece, next-ring, flow-left, chains-whole, pieces-few, numbers-short}
-use Rattle.pieces.proofs.Silent.{Silent, first-silent, phases-silent}
+use Rattle.pieces.proofs.Silent.{first-silent, phases-silent}
 
 module _ (t : Table) (ok : Accepted t) where
   -- The flow at the end.

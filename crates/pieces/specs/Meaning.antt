@@ -11,6 +11,10 @@ use Rattle.table.specs.Table.{Table}
 use Rattle.network.specs.Network.{Network}
 use Rattle.pieces.specs.Chains.{Piece, remaining, next, without}
 
+-- Every arc out of the sink is empty.
+abbrev pub Silent : Network → (ℕ → ℕ) → Type 0
+Silent N flow = (k : ℕ) → k < N .m → N .tail k ≡ N .t → flow k ≡ 0
+
 -- These places lead from node a to node b, one after the other.
 abbrev pub Links : Network → (places : List ℕ) (a b : ℕ) → Type 0
 Links N [] a b = a ≡ b

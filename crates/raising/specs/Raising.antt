@@ -1,13 +1,13 @@
--- Document 02, CR 13: one arc raised by one unit, and what that does to the largest value. Of networks, so beyond the capacity limit too.
+-- Document 02, CR 13: one arc raised, and what that does to the largest value. Of networks, so beyond the capacity limit too.
 use Prim.Native.Nat.{ℕ, _+_}
 use mathlib.Core.Path.{_≡_}
 use mathlib.Core.Bool.{Bool, cond, _&&_}
 use lib.Dec.{eqb}
 use Rattle.network.specs.Network.{Network, Flow, Maximum, inflow, outflow}
 
--- The network with the arc at place a raised by one unit.
-abbrev pub raisedAt : Network → ℕ → Network
-raisedAt N a =
+-- The network with the arc at place a raised by some units.
+abbrev pub raisedBy : Network → (a units : ℕ) → Network
+raisedBy N a units =
     record {
       n = N .n;
       m = N .m;
@@ -15,7 +15,7 @@ raisedAt N a =
       t = N .t;
       tail = N .tail;
       head = N .head;
-      capacity = λ k. cond (eqb k a) (N .capacity a + 1) (N .capacity k);
+      capacity = λ k. cond (eqb k a) (N .capacity a + units) (N .capacity k);
       low = N .low;
     }
 
@@ -23,10 +23,14 @@ raisedAt N a =
 abbrev pub ValueRises : (N : Network) → (ℕ → ℕ) → (M : Network) → (ℕ → ℕ) → ℕ → Type 0
 ValueRises N flow M other d = outflow M other (M .s) + inflow N flow (N .s) ≡ outflow N flow (N .s) + inflow M other (M .s) + d
 
--- Raising the arc at place a raises the value of this flow by d: the raised network has a largest flow, and each has a value d above.
-pub record RisesBy (N : Network) (flow : ℕ → ℕ) (a d : ℕ) : Type 0 where
-  pub some : (other : ℕ → ℕ) × Flow (raisedAt N a) other × Maximum (raisedAt N a) other
-  pub each : (other : ℕ → ℕ) → Flow (raisedAt N a) other → Maximum (raisedAt N a) other → ValueRises N flow (raisedAt N a) other d
+-- Raising the arc at place a by some units raises the value of this flow by d: the raised network has a largest flow, and each has a value d above.
+pub record Rises (N : Network) (flow : ℕ → ℕ) (a units d : ℕ) : Type 0 where
+  pub some : (other : ℕ → ℕ) × Flow (raisedBy N a units) other × Maximum (raisedBy N a units) other
+  pub each : (other : ℕ → ℕ) → Flow (raisedBy N a units) other → Maximum (raisedBy N a units) other → ValueRises N flow (raisedBy N a units) other d
+
+-- The same of one unit.
+abbrev pub RisesBy : (N : Network) → (ℕ → ℕ) → (a d : ℕ) → Type 0
+RisesBy N flow a d = Rises N flow a 1 d
 
 -- Whether an arc would help: its tail is on the source side R, and its head among the nodes L that reach the sink.
 abbrev pub helpsIn : Network → (R L : ℕ → Bool) → ℕ → Bool

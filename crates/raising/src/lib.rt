@@ -1,1 +1,1 @@
-// What raising one arc by one unit does to the largest value: definitions and lemmas only, no code.
+// What raising one arc does to the largest value: definitions and lemmas only, no code.

@@ -5,8 +5,7 @@ use mathlib.Core.Bool.{Bool, true, false}
 use mathlib.Core.List.{List}
 use native.Mathlib.Omega.{arith}
 use Rattle.rows.specs.Row.{atPlace}
-use Rattle.network.specs.Network.{Network, Reach, source, along, ToSink, arrived, onward, SinkReached, nearEnd, farEnd, residualOver}
-use Rattle.network.proofs.Notions.{Sound}
+use Rattle.network.specs.Network.{Network, Reach, source, along, ToSink, arrived, onward, SinkReached, nearEnd, farEnd, residualOver, Sound}
 use Rattle.table.specs.Table.{Table, networkOf}
 use Rattle.table.specs.Accepted.{ArcRows}
 use Rattle.reach.specs.Side.{marked, turned, sinkSideOf}

@@ -15,7 +15,8 @@ use Rattle.minimums.proofs.Accepting.{plain-check}
 use Rattle.minimums.proofs.Rowless.{Rowless, records-rowless}
 use Rattle.solver.specs.Solving.{hasRoom, answerWith, solved, solvingAs, solvingVerdict, solving}
 use Rattle.planner.specs.Solving.{SignedLeft, impossible, found, BoundingAs, boundedVerdict, SolvesAs}
-use Rattle.planner.proofs.Unique.{Same, solve-unique}
+use Rattle.planner.specs.Same.{Same}
+use Rattle.planner.proofs.Unique.{solve-unique}
 use Rattle.records.specs.Solve.{Promised}
 
 -- Two results that meet the promise have the same answer and rows, but for the flows where a minimum is above 0.

@@ -11,8 +11,8 @@ use lib.Dec.{eqb, ltb}
 use Rattle.rows.specs.Row.{atNode, atPlace}
 use Rattle.rows.specs.Row.{Node as NodeOf}
 use Rattle.rows.proofs.Sums.{by-test, both-true}
-use Rattle.network.specs.Network.{nearEnd, farEnd, residualOver}
-use Rattle.network.proofs.Notions.{Sound, ResidualFrom, far-end-node}
+use Rattle.network.specs.Network.{nearEnd, farEnd, residualOver, Sound}
+use Rattle.network.proofs.Notions.{ResidualFrom, far-end-node}
 use Rattle.network.proofs.Steps.{Eligible, NewLabel}
 use Rattle.table.specs.Table.{Table, arcs, networkOf}
 use Rattle.arcs.specs.Residual.{way, far, residual, list}

@@ -1,17 +1,17 @@
 -- What the choice of a step answers.
 use Prim.Native.Nat.{ℕ, zero, suc, _*_, _≤_, _<_}
 use mathlib.Core.Path.{_≡_, ap, subst}
+use mathlib.Core.Bool.{true, false}
 use mathlib.Core.List.{List}
 use native.Mathlib.Omega.{arith}
 use borrow.Author.Tests.{ltb-true, ltb-false}
-use lib.Dec.{ltb}
 use Rattle.rows.specs.Row.{atNode}
 use Rattle.rows.specs.Row.{Node as NodeOf}
 use Rattle.rows.proofs.Sums.{by-equal}
 use Rattle.network.proofs.Steps.{Chosen, Ended}
 use Rattle.table.specs.Table.{Table, networkOf}
 use Rattle.run.specs.Start.{State}
-use Rattle.run.specs.Choice.{large, lower, chooseTo, choose}
+use Rattle.run.specs.Choice.{large, isLess, lower, chooseTo, choose}
 use Rattle.run.specs.declared.Choice.{Choice}
 use Rattle.run.specs.declared.Choice.the-variants.{Node, Nothing}
 use Rattle.run.proofs.Networks.{functionsOf, by-cond}
@@ -58,9 +58,14 @@ module _ (delta : ℕ) (excess label : List ℕ) where
         first = λ j v big before. absurd (omega (arith, none j (omega arith)));
       }
   large-next i (Node b) big best =
-      by-cond (Answers delta excess label (suc i)) (ltb (atNode label (suc i)) (atNode label b)) (Node (suc i)) (Node b)
-      (λ e. new (ltb-true (atNode label (suc i)) (atNode label b) e)) (λ e. old (ltb-false (atNode label (suc i)) (atNode label b) e))
+      by-cond (Answers delta excess label (suc i)) (isLess label (suc i) b) (Node (suc i)) (Node b) (λ e. new (is-less e)) (λ e. old (not-less e))
     where
+      is-less : isLess label (suc i) b ≡ true → atNode label (suc i) < atNode label b
+      is-less e = ltb-true (atNode label (suc i)) (atNode label b) e
+
+      not-less : isLess label (suc i) b ≡ false → atNode label b ≤ atNode label (suc i)
+      not-less e = ltb-false (atNode label (suc i)) (atNode label b) e
+
       new : atNode label (suc i) < atNode label b → First delta excess label (suc i) (suc i)
       new less =
           record {

@@ -5,8 +5,7 @@ use mathlib.Core.Bool.{Bool, true, false, cond}
 use native.Mathlib.Omega.{arith}
 use borrow.Author.Tests.{ne-eqb}
 use Rattle.rows.specs.Row.{atPlace, atNode}
-use Rattle.network.specs.Network.{isInner}
-use Rattle.network.proofs.Notions.{Sound, NoMinimums}
+use Rattle.network.specs.Network.{isInner, Sound, NoMinimums}
 use Rattle.network.proofs.Steps.{State as Functions}
 use Rattle.network.proofs.Facts.{Facts}
 use Rattle.table.specs.Table.{Table, networkOf}

@@ -10,8 +10,8 @@ use Rattle.rows.proofs.Functions.{put}
 use Rattle.rows.specs.Row.{Node as NodeOf}
 use Rattle.rows.proofs.Sums.{put-other}
 use Rattle.rows.proofs.Rows.{place-set, node-set, put-self}
-use Rattle.network.specs.Network.{residualOver, isInner}
-use Rattle.network.proofs.Notions.{Sound, far-end-node, ends-differ}
+use Rattle.network.specs.Network.{residualOver, isInner, Sound}
+use Rattle.network.proofs.Notions.{far-end-node, ends-differ}
 use Rattle.network.proofs.Steps.{taken, brought}
 use Rattle.network.proofs.Steps.{State as Functions, moved as changed, push as pushed, relabel as relabelled, amount as moves}
 use Rattle.table.specs.Table.{Table, arcs, networkOf}

@@ -13,10 +13,14 @@ use Rattle.run.specs.declared.Choice.the-variants.{Node, Nothing}
 abbrev pub large : ℕ → List ℕ → ℕ → Bool
 large delta excess i = ltb delta (2 * atNode excess i)
 
+-- Whether node i's label is less than node b's.
+abbrev pub isLess : List ℕ → (i b : ℕ) → Bool
+isLess label i b = ltb (atNode label i) (atNode label b)
+
 -- The choice so far, or node i where its label is less.
 abbrev pub lower : List ℕ → Choice → ℕ → Choice
 lower label Nothing i = Node i
-lower label (Node b) i = cond (ltb (atNode label i) (atNode label b)) (Node i) (Node b)
+lower label (Node b) i = cond (isLess label i b) (Node i) (Node b)
 
 -- The choice among nodes 1 to i.
 unfoldable pub chooseTo : ℕ → List ℕ → List ℕ → ℕ → Choice

@@ -12,10 +12,9 @@ use Rattle.rows.proofs.Sums.{by-test, by-equal, both-true}
 use Rattle.rows.specs.Row.{atNode, Node}
 use Rattle.shortest.specs.Ways.{Ways, Leads, ahead, behind, otherEnd}
 use Rattle.shortest.specs.Distance.{leadsBy, leadsTo, lowest, next, chainFrom}
-use Rattle.shortest.specs.Labels.{Labels, arrives}
+use Rattle.shortest.specs.Labels.{Labels, arrives, Distances}
 use Rattle.shortest.specs.Chain.{Chain, arrived, step, Before, ended, lower, alike, FirstChain}
 use Rattle.shortest.proofs.Ends.{Ends, leads-within}
-use Rattle.shortest.proofs.Laying.{Distances}
 
 -- ---- the lowest place that passes
 

@@ -14,8 +14,8 @@ use Rattle.rows.proofs.Functions.{put}
 use Rattle.rows.specs.Row.{atPlace, atNode}
 use Rattle.rows.proofs.Sums.{by-test, by-equal, only-true, only-false, put-same, put-other}
 use Rattle.rows.proofs.Rows.{place-set}
-use Rattle.network.specs.Network.{Network, Flow, inflow, outflow, nearEnd, farEnd, residualOver}
-use Rattle.network.proofs.Notions.{Sound, residual-over-ext}
+use Rattle.network.specs.Network.{Network, Flow, inflow, outflow, nearEnd, farEnd, residualOver, Sound}
+use Rattle.network.proofs.Notions.{residual-over-ext}
 use Rattle.network.proofs.Push.{push-balance, moved-range}
 use Rattle.shortest.specs.Augment.{moved, waysIn, wayFrom, residualFrom, farFrom, leastWith, leastResidual, residualsOf, movedAt, filled, Fits, at-sink, goes}
 use Rattle.shortest.specs.Ways.{Leads, ahead, behind}

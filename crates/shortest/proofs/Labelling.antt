@@ -9,8 +9,8 @@ use lib.ListN.{length, length-set}
 use lib.Dec.{ltb}
 use Rattle.rows.specs.Row.{atPlace, atNode}
 use Rattle.rows.proofs.Sums.{by-test, by-equal}
-use Rattle.network.specs.Network.{Network}
-use Rattle.network.proofs.Notions.{Sound, residual-over-ext}
+use Rattle.network.specs.Network.{Network, Sound}
+use Rattle.network.proofs.Notions.{residual-over-ext}
 use Rattle.shortest.specs.Ways.{Leads, ahead, behind, otherEnd}
 use Rattle.shortest.specs.Distance.{leadsTo, chainFrom}
 use Rattle.shortest.specs.Labels.{Labels, arrives, NoneLower}

@@ -14,7 +14,7 @@ use Rattle.rows.proofs.Sums.{by-test, by-equal}
 use Rattle.rows.specs.Row.{atNode, Node}
 use Rattle.shortest.specs.Ways.{Ways, Leads, ahead, behind}
 use Rattle.shortest.specs.Distance.{lay, layTo, rounds, distances}
-use Rattle.shortest.specs.Labels.{Labels}
+use Rattle.shortest.specs.Labels.{Labels, Distances}
 use Rattle.shortest.proofs.Ends.{Ends, leads-within}
 
 -- ---- one node's distance
@@ -273,11 +273,6 @@ module _ (w : Ways) (n t : ℕ) (ht : Node n t) where
         valid = λ k i j lead l. absurd (omega arith);
         descends = λ i e hi at l. ⊎-elim (λ p. absurd (omega (arith, p .1))) (λ q. absurd (omega arith)) (start-at i hi);
       }
-
--- What the distances of the nodes 1 to n to node t are: labels, n where t is not reached, and else with an open arc one nearer.
-pub record Distances (w : Ways) (n t : ℕ) (row : List ℕ) : Type 0 where
-  pub labels : Labels w n t row
-  pub descends : (i e : ℕ) → Node n i → atNode row i ≡ suc e → suc e < n → (k : ℕ) × (j : ℕ) × Leads w k i j × (atNode row j ≡ e)
 
 -- Distances that are right after n rounds are right.
 laid-all : (w : Ways) (n t : ℕ) → Ends n w → (row : List ℕ) → Laid w n t n row → Distances w n t row

@@ -10,18 +10,17 @@ use borrow.Author.Tests.{ltb-true, ltb-false, lt-ltb}
 use Rattle.rows.specs.Sum.{only}
 use Rattle.rows.specs.Row.{atPlace, atNode, Node}
 use Rattle.rows.proofs.Sums.{by-test, by-equal, sum-mono, only-mono}
-use Rattle.network.specs.Network.{Network, Flow, Maximum, Reach, source, along, Answer, inflow, outflow, residualOver}
-use Rattle.network.proofs.Notions.{Sound}
+use Rattle.network.specs.Network.{Network, Flow, Maximum, Reach, source, along, Answer, inflow, outflow, residualOver, Sound}
 use Rattle.network.proofs.Cuts.{reached-answer}
 use Rattle.network.proofs.Gaps.{Valid, EndLabels, sink-unreached}
 use Rattle.reach.specs.Side.{marked, sideFrom}
 use Rattle.reach.proofs.Side.{side-reached}
 use Rattle.shortest.specs.Ways.{ahead, behind}
-use Rattle.shortest.specs.Labels.{arrives}
+use Rattle.shortest.specs.Labels.{arrives, Distances}
 use Rattle.shortest.specs.Chain.{Chain, arrived, step, FirstChain}
 use Rattle.shortest.specs.Augment.{waysIn, residualFrom, leastWith, leastResidual, filled, Fits, distancesIn, reaches, chainIn, augmented, goOn, enough, settled, GoesOn, stops, fills}
 use Rattle.shortest.proofs.Ends.{Ends}
-use Rattle.shortest.proofs.Laying.{Distances, distances-right}
+use Rattle.shortest.proofs.Laying.{distances-right}
 use Rattle.shortest.proofs.Chains.{arrives-first, distances-arrive, chosen-long, first-chain-same}
 use Rattle.shortest.proofs.Filling.{least-above, filled-long, fits-later, fits-flow, fits-value, shortest-fits}
 

@@ -1,4 +1,4 @@
--- The chain by labels, which need not be the distances: for the contracts of the functions that walk, and what is proved of them.
+-- Labels, which need not be the distances, and the chain by them: for the contracts of the functions that walk, and what is proved of them.
 use Prim.Native.Nat.{ℕ, zero, suc, _+_, _≤_, _<_}
 use mathlib.Core.Path.{_≡_}
 use mathlib.Core.Bool.{Bool, true, false, _&&_}
@@ -16,6 +16,11 @@ pub record Labels (w : Ways) (n t : ℕ) (row : List ℕ) : Type 0 where
   pub at-sink : atNode row t ≡ 0
   pub only-sink : (i : ℕ) → Node n i → atNode row i ≡ 0 → i ≡ t
   pub valid : (k i j : ℕ) → Leads w k i j → atNode row i ≤ atNode row j + 1
+
+-- What the distances of the nodes 1 to n to node t are: labels, n where t is not reached, and else with an open arc one nearer.
+pub record Distances (w : Ways) (n t : ℕ) (row : List ℕ) : Type 0 where
+  pub labels : Labels w n t row
+  pub descends : (i e : ℕ) → Node n i → atNode row i ≡ suc e → suc e < n → (k : ℕ) × (j : ℕ) × Leads w k i j × (atNode row j ≡ e)
 
 -- Whether the chain from node i, at label d, gets to label 0: at each node some place leads one nearer.
 unfoldable pub arrives : Ways → List ℕ → ℕ → ℕ → Bool

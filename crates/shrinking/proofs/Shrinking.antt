@@ -11,8 +11,7 @@ use Rattle.rows.specs.Row.{Node, atPlace}
 use Rattle.rows.specs.Sum.{sum, only}
 use Rattle.rows.proofs.Sums.{by-equal, by-test, both-true, only-of-zero, sum-zero}
 use Rattle.rows.proofs.Rows.{at-places}
-use Rattle.network.specs.Network.{Inner, Flow, Value, Cut, source, along, Reached, arrived, onward, SinkReached, Answer, inflow, outflow, nearEnd, farEnd, residualOver}
-use Rattle.network.proofs.Notions.{Closed}
+use Rattle.network.specs.Network.{Inner, Flow, Value, Cut, source, along, Reached, arrived, onward, SinkReached, Answer, inflow, outflow, nearEnd, farEnd, residualOver, Closed}
 use Rattle.network.proofs.Agree.{inflow-agree, outflow-agree}
 use Rattle.network.proofs.Cuts.{reach-inside, reach-closed, reached-answer, no-minimums-enter}
 use Rattle.table.specs.Table.{Table, arcs, tail, head, capacity, networkOf}

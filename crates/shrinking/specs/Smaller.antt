@@ -1,10 +1,11 @@
 -- Document 02, CR 14: the smaller table, without the arcs and nodes that can't matter, and its flow put back.
-use Prim.Native.Nat.{ℕ, suc}
+use Prim.Native.Nat.{ℕ, suc, _<_}
+use mathlib.Core.Path.{_≡_}
 use mathlib.Core.Bool.{Bool, cond, _&&_, _||_}
 use mathlib.Core.List.{List, map}
 use lib.Dec.{eqb, ltb}
 use lib.ListN.{length}
-use Rattle.rows.specs.Row.{atPlace, byPlace}
+use Rattle.rows.specs.Row.{atPlace, atNode, byPlace}
 use Rattle.table.specs.Table.{Table, tableOf, arcs, tail, head, capacity, networkOf}
 use Rattle.reach.specs.Side.{marked, sideFrom, sideOf, turned}
 use Rattle.run.specs.Phase.{run}
@@ -25,6 +26,16 @@ bothMark ahead behind i = marked ahead i && marked behind i
 -- A node is live if over arcs of capacity above 0 the source reaches it and it reaches the sink.
 abbrev pub live : Table → (i : ℕ) → Bool
 live t i = bothMark (fromSource t) (toSink t) i
+
+-- A way from i to j over arcs of capacity above 0.
+pub data Leads (t : Table) : (i j : ℕ) → Type 0 where
+  here : {i : ℕ} → Leads t i i
+  over : (k : ℕ) {j : ℕ} → k < arcs t → 0 < capacity t k → Leads t (head t k) j → Leads t (tail t k) j
+
+-- In those words a node is live (proved: live-leads, leads-live).
+pub record Live (t : Table) (i : ℕ) : Type 0 where
+  pub from-source : Leads t (t .source) i
+  pub to-sink : Leads t i (t .sink)
 
 -- A node is kept by two rows of marks: it has both, or is source or sink.
 abbrev pub nodeBy : (ahead behind : List ℕ) → (s t : ℕ) → (i : ℕ) → Bool
@@ -64,6 +75,14 @@ abbrev pub smaller : Table → Table
 smaller t =
     tableOf (length (nodesFrom t)) (numberIn t (t .source)) (numberIn t (t .sink))
     (map (λ k. numberIn t (tail t k)) (arcsFrom t)) (map (λ k. numberIn t (head t k)) (arcsFrom t)) (map (λ k. capacity t k) (arcsFrom t))
+
+-- By these rows of a smaller table and its origins, its arc q is an old one, renumbered: where it came from stands at q of `arcs-from`, and its ends
+-- are numbers of nodes of which `nodes-from` has the old arc's ends.
+pub record OldArc (t : Table) (nodes-from arcs-from tails heads capacities : List ℕ) (q : ℕ) : Type 0 where
+  pub below : atPlace arcs-from q < arcs t
+  pub tail-is : atNode nodes-from (atPlace tails q) ≡ tail t (atPlace arcs-from q)
+  pub head-is : atNode nodes-from (atPlace heads q) ≡ head t (atPlace arcs-from q)
+  pub capacity-is : atPlace capacities q ≡ capacity t (atPlace arcs-from q)
 
 -- At place k what a row holds at its rank among those that pass, and 0 where k does not pass.
 abbrev pub backBy : (ℕ → Bool) → (flow : List ℕ) → (k : ℕ) → ℕ

@@ -1,6 +1,6 @@
 -- What is written and solved is the smaller table, and what is left is what the call promises.
-use Prim.Native.Nat.{ℕ, _≤_, _<_}
-use mathlib.Core.Path.{_≡_, refl, ap, sym, _∙_}
+use Prim.Native.Nat.{ℕ, suc, _≤_, _<_}
+use mathlib.Core.Path.{_≡_, refl, ap, sym, subst⁻¹, _∙_}
 use mathlib.Core.Bool.{true, cond}
 use mathlib.Core.List.{List, _++_, append-nil}
 use native.Mathlib.Omega.{arith}
@@ -24,20 +24,21 @@ use Rattle.arcs.specs.Work.{workNeed}
 use Rattle.reach.specs.Side.{sideOf}
 use Rattle.reach.proofs.Side.{length-of-side}
 use Rattle.run.specs.Phase.{run}
-use Rattle.run.specs.Demands.{Best}
 use Rattle.run.proofs.Networks.{accepted-sound}
+use Rattle.run.proofs.Whole.{run-bounded}
 use Rattle.solver.specs.declared.Answer.{Answer}
 use Rattle.solver.specs.Solving.{refusal, answerWith, solution}
 use Rattle.solver.proofs.Solved.{Roomy, room-roomy}
 use Rattle.listing.specs.Passing.{filledWith}
-use Rattle.listing.proofs.Ranking.{map-long, rank, rank-below}
-use Rattle.shrinking.specs.Smaller.{fromSource, toSink, arcBy, keepsArc, nodesFrom, arcsFrom, numberIn, smaller, backBy, backAt, putBack, backFlow, backSide}
-use Rattle.shrinking.proofs.Shrinking.{back-best}
+use Rattle.listing.proofs.Ranking.{map-long, rank, rank-below, filled-lists}
+use Rattle.shrinking.specs.Smaller.{fromSource, toSink, arcBy, keepsNode, keepsArc, nodesFrom, arcsFrom, numberIn, smaller, backBy, backAt, putBack, backFlow, backSide}
+use Rattle.shrinking.proofs.Shrinking.{smaller-accepted, back-best}
+use Rattle.shrinking.proofs.Meaning.{old-arc}
 use Rattle.keeping.specs.declared.Sizes.{Sizes}
 use Rattle.smaller.specs.declared.Reduced.{Reduced}
 use Rattle.keeping.specs.SmallRows.{SmallRows, smallRows}
 use Rattle.keeping.specs.Written.{Written}
-use Rattle.smaller.specs.Reducing.{LeftReduced, leftReduced, reducedWith, shrunk, hasSmallRoom, reducingVerdict, reducingAs, reducing}
+use Rattle.smaller.specs.Reducing.{LeftReduced, leftReduced, reducedWith, shrunk, hasSmallRoom, reducingVerdict, reducingAs, reducing, Reduces}
 use Rattle.keeping.proofs.Keeping.{filled-front}
 
 -- Equal parts make equal results,
@@ -161,6 +162,23 @@ small-roomy n m small h =
     let (x, y) = both-true _ _ h3 in
     record { for-tails = leb-true _ _ p; for-heads = leb-true _ _ q; for-capacities = leb-true _ _ r; for-nodes = leb-true _ _ x; for-arcs = leb-true _ _ y }
 
+-- What the smaller table solved means.
+shrunk-reduces : (t : Table) → Accepted t → (stamp : ℕ) (flow side work : List ℕ) (small : SmallRows) → Reduces t (shrunk t stamp flow side work small)
+unfolding shrunk answerWith
+shrunk-reduces t ok stamp flow side work small =
+    let counted : arcs (smaller t) ≡ length (arcsFrom t) = map-long (λ k. capacity t k) (arcsFrom t) in
+    record {
+      best =
+          rw (
+            take-at (backFlow t) (drop (arcs t) flow) (arcs t) (length-places (backAt t (run (smaller t) .state .flow)) (arcs t)),
+            take-at (backSide t) (drop (t .nodes) side) (t .nodes) (length-of-side (networkOf t) (atPlace (backFlow t)) (accepted-sound t ok)),
+          ) (back-best t ok);
+      bounded = run-bounded (smaller t) (smaller-accepted t ok);
+      nodes = filled-lists (keepsNode t) (suc (t .nodes)) (suc (t .nodes)) (length (nodesFrom t)) (small .nodes-from) refl refl;
+      places = filled-lists (keepsArc t) (arcs t) (arcs t) (arcs (smaller t)) (small .arcs-from) refl counted;
+      each = λ q l. old-arc t ok _ _ _ _ _ q (omega (arith, counted));
+    }
+
 module _ (b : BoundedTable) (stamp : ℕ) (flow side work : List ℕ) (small : SmallRows) where
   module _ (v : Verdict) (checked : v ≡ reducingVerdict b (length flow) (length side) (length work) small) where
     -- Where the checks refuse, the call gives that refusal and leaves the rows.
@@ -185,22 +203,15 @@ module _ (b : BoundedTable) (stamp : ℕ) (flow side work : List ℕ) (small : S
           let (p, q) = both-true _ _ (plain-accepts b _ (ap isFine (sym checked ∙ fine)) .1) in
           (room-roomy _ _ _ _ _ p, small-roomy _ _ _ q)
 
-  -- What refuses nothing leaves a largest flow of the old table, its side, and its value.
-  pub reducing-best : (l : LeftReduced) → l ≡ reducing b stamp flow side work small → l .reduced .answer .refusal ≡ 0
-      → Best (b .table) (take (arcs (b .table)) (l .flow)) (take (b .table .nodes) (l .side)) (l .reduced .answer .value)
-  unfolding reducing reducingAs shrunk answerWith
-  reducing-best l same none = go (reducingVerdict b (length flow) (length side) (length work) small) refl
+  -- What refuses nothing is what reducing means.
+  pub reducing-reduces : (l : LeftReduced) → l ≡ reducing b stamp flow side work small → l .reduced .answer .refusal ≡ 0 → Reduces (b .table) l
+  unfolding reducing reducingAs
+  reducing-reduces l same none = go (reducingVerdict b (length flow) (length side) (length work) small) refl
     where
       by : Verdict → LeftReduced
       by v = reducingAs v (b .table) stamp flow side work small
 
-      go : (v : Verdict) → v ≡ reducingVerdict b (length flow) (length side) (length work) small → Best (b .table) (take (arcs (b .table)) (l .flow)) (take (b .table .nodes) (l .side)) (l .reduced .answer .value)
+      go : (v : Verdict) → v ≡ reducingVerdict b (length flow) (length side) (length work) small → Reduces (b .table) l
       go Fine checked =
-          let ok : Accepted (b .table) = fine-accepted Fine checked refl in
-          let is : l ≡ shrunk (b .table) stamp flow side work small = same ∙ ap by (sym checked) in
-          rw (
-            is,
-            take-at (backFlow (b .table)) (drop (arcs (b .table)) flow) (arcs (b .table)) (length-places (backAt (b .table) (run (smaller (b .table)) .state .flow)) (arcs (b .table))),
-            take-at (backSide (b .table)) (drop (b .table .nodes) side) (b .table .nodes) (length-of-side (networkOf (b .table)) (atPlace (backFlow (b .table))) (accepted-sound (b .table) ok)),
-          ) (back-best (b .table) ok)
+          subst⁻¹ (Reduces (b .table)) (same ∙ ap by (sym checked)) (shrunk-reduces (b .table) (fine-accepted Fine checked refl) stamp flow side work small)
       go (Refused name place) checked = absurd (number-positive name (ap (λ (x : LeftReduced). x .reduced .answer .refusal) (sym (same ∙ ap by (sym checked))) ∙ none))

@@ -1,9 +1,9 @@
 -- Document 02, CR 14, the call: what it answers, and what the lent rows hold afterwards.
-use Prim.Native.Nat.{ℕ, _≤_}
+use Prim.Native.Nat.{ℕ, suc, _≤_, _<_}
 use mathlib.Core.Bool.{Bool, _&&_}
 use mathlib.Core.List.{List, _++_}
 use lib.Dec.{leb}
-use lib.ListN.{length, drop}
+use lib.ListN.{length, take, drop}
 use denote.Ref.{now}
 use Rattle.rows.specs.Lent.{GivenRow}
 use Rattle.rows.specs.Row.{cleared}
@@ -14,10 +14,11 @@ use Rattle.minimums.specs.BoundedTable.{BoundedTable}
 use Rattle.minimums.specs.Checks.{plainCheck}
 use Rattle.stamps.specs.Stamp.{raised}
 use Rattle.arcs.specs.Work.{workNeed}
+use Rattle.run.specs.Demands.{Best, Bounded}
 use Rattle.solver.specs.declared.Answer.{Answer}
-use Rattle.solver.specs.Solving.{hasRoom, refusal, solution}
-use Rattle.listing.specs.Passing.{filledWith}
-use Rattle.shrinking.specs.Smaller.{nodesFrom, arcsFrom, smaller, backFlow, backSide}
+use Rattle.solver.specs.Solving.{hasRoom, refusal, solution, countsOf}
+use Rattle.listing.specs.Passing.{filledWith, Lists}
+use Rattle.shrinking.specs.Smaller.{OldArc, keepsNode, keepsArc, nodesFrom, arcsFrom, smaller, backFlow, backSide}
 use Rattle.smaller.specs.declared.Reduced.{Reduced}
 use Rattle.keeping.specs.SmallRows.{SmallRows, smallRows}
 
@@ -82,3 +83,13 @@ reducingAs (Refused name place) t stamp flow side work small = leftReduced (redu
 unfoldable pub reducing : BoundedTable → (stamp : ℕ) → (flow side work : List ℕ) → SmallRows → LeftReduced
 reducing b stamp flow side work small =
     reducingAs (reducingVerdict b (length flow) (length side) (length work) small) (b .table) stamp flow side work small
+
+-- What reducing means of a table that nothing refuses: demand 2 of the old table's rows; demand 3 of the smaller table, whose D, K and counts they are;
+-- the kept nodes and the kept arcs, all of them and rising, stand where its nodes and arcs came from; and each of its arcs is that old one, renumbered.
+pub record Reduces (t : Table) (l : LeftReduced) : Type 0 where
+  pub best : Best t (take (arcs t) (l .flow)) (take (t .nodes) (l .side)) (l .reduced .answer .value)
+  pub bounded : Bounded (smaller t) (l .reduced .answer .scale) (l .reduced .answer .phases) (countsOf (l .reduced .answer))
+  pub nodes : Lists (keepsNode t) (suc (t .nodes)) (take (l .reduced .nodes) (l .small .nodes-from))
+  pub places : Lists (keepsArc t) (arcs t) (take (l .reduced .arcs) (l .small .arcs-from))
+  pub each : (q : ℕ) → q < l .reduced .arcs
+      → OldArc t (l .small .nodes-from) (l .small .arcs-from) (l .small .tails) (l .small .heads) (l .small .capacities) q

@@ -16,11 +16,10 @@ ghost use Rattle.stamps.specs.Stamp.{raised};
 ghost use Rattle.arcs.specs.Work.{InWork, workNeed};
 ghost use Rattle.reach.specs.Side.{sideOf};
 ghost use Rattle.run.specs.Phase.{run};
-ghost use Rattle.run.specs.Demands.{Best};
 ghost use Rattle.solver.specs.Solving.{refusal, solution};
 ghost use Rattle.shrinking.specs.Smaller.{fromSource, toSink, arcBy, backBy};
 ghost use Rattle.keeping.specs.SmallRows.{lentSmall};
-ghost use Rattle.smaller.specs.Reducing.{leftReduced, reducedWith, shrunk, hasSmallRoom, reducing, GivenRoomToReduce};
+ghost use Rattle.smaller.specs.Reducing.{leftReduced, reducedWith, shrunk, hasSmallRoom, reducing, Reduces, GivenRoomToReduce};
 
 // Marks what the source reaches and what reaches the sink over arcs of capacity above 0, by lists that stay in their row.
 fn find_live(
@@ -426,8 +425,9 @@ pub fn reduce(
         let table = lentBounded n s t tails heads capacities minimums in
         leftReduced r (after flow) (after side) (after work) (small .exit)
         ≡ reducing table stamp (before flow) (before side) (before work) (small .entry)) ⌝ }
-    ensures best { λ r. ⌜ (let table = lentTable n s t tails heads capacities in
-        r .answer .refusal ≡ 0 → Best table (take (length (before capacities)) (after flow)) (take n (after side)) (r .answer .value)) ⌝ }
+    ensures means { λ r. ⌜ (let small = lentSmall «small_tails» «small_heads» «small_capacities» «nodes_from» «arcs_from» in
+        let table = lentTable n s t tails heads capacities in
+        r .answer .refusal ≡ 0 → Reduces table (leftReduced r (after flow) (after side) (after work) (small .exit))) ⌝ }
 {
     let solving = solver::has_room(n, capacities.len(), flow.len(), side.len(), work.len());
     let room = has_small_room(

@@ -1,6 +1,7 @@
--- Reading what was written gives what went in, and a text is read exactly if it is the text of some value and some row within the capacities.
+-- Reading what was written gives what went in; a text is read exactly if it is the text of some value and some row within the capacities, and else
+-- refused at the first line that no such text has there.
 use Prim.Native.Nat.{ℕ, suc, _≤_}
-use mathlib.Core.Path.{_≡_, refl, sym, ap, subst, _∙_}
+use mathlib.Core.Path.{_≡_, refl, sym, ap, subst, subst⁻¹, _∙_}
 use mathlib.Core.Bool.{Bool, true, not}
 use mathlib.Core.List.{List, [], _∷_, _++_}
 use native.Mathlib.Omega.{arith}
@@ -13,6 +14,7 @@ use Rattle.rows.proofs.Sums.{by-test}
 use Rattle.table.specs.Table.{arcs}
 use Rattle.table.specs.Accepted.{Accepted}
 use Rattle.table.specs.Checks.{isFine, refuseIf, orElse}
+use Rattle.table.specs.Refusals.{numberOf}
 use Rattle.table.specs.declared.Name.the-variants.{Room, Long, Solution}
 use Rattle.table.specs.declared.Verdict.{Verdict}
 use Rattle.table.specs.declared.Verdict.the-variants.{Fine, Refused}
@@ -23,8 +25,9 @@ use Rattle.minimums.specs.Checks.{plainCheck}
 use Rattle.minimums.proofs.Accepting.{plain-accepts}
 use Rattle.intake.specs.Verdict.{textVerdict}
 use Rattle.wording.specs.Text.{solutionText, Within, IsSolution}
-use Rattle.wording.specs.Lines.{Words, words, stop, textWords}
+use Rattle.wording.specs.Lines.{Words, words, stop, textWords, FirstWrong}
 use Rattle.wording.proofs.Speaking.{first-within, text-says, says-text, text-short, text-front}
+use Rattle.wording.proofs.Stopping.{stops-first}
 use Rattle.solution.specs.Writing.{firstAbove, writingVerdict, writingAs, writing, writtenWith}
 use Rattle.solution.specs.Writing.{left as leftWritten}
 use Rattle.solution.specs.Reading.{Left, left, backWith, leftBy, readingAs, reading}
@@ -77,6 +80,28 @@ module _ (b : BoundedTable) (fine : isFine (plainCheck b true) ≡ true) (lent :
       by-words (words value row) f on z =
           let solution = says-text (b .table) passes text value row f in
           (value, row, solution, on ∙ rw (solution .long) refl)
+
+  -- A text that is refused as SOLUTION is not too long.
+  refused-short : (text : List ℕ) → reading b text lent .back .refusal ≡ numberOf Solution → length text ≤ 1048576
+  unfolding reading readingAs textVerdict
+  refused-short text e =
+      let others = orElse (plainCheck b true) (refuseIf (not (leb (arcs (b .table)) (length lent))) Room 0 Fine) in
+      by-test (ltb 1048576 (length text))
+      (λ h.
+      let other : numberOf Long ≡ numberOf Solution = sym (ap (λ (x : Bool). readingAs (refuseIf x Long 0 others) (b .table) text lent .back .refusal) h) ∙ e in
+      absurd (omega arith))
+      (λ h. ltb-false _ _ h)
+
+  -- It is refused at the first line that no solution text of the table has there.
+  pub solution-first : (text : List ℕ) → reading b text lent .back .refusal ≡ numberOf Solution → FirstWrong (b .table) text (reading b text lent .back .place)
+  unfolding leftBy
+  solution-first text e =
+      let on = reads-on text (refused-short text e) in
+      subst⁻¹ (λ (l : Left). FirstWrong (b .table) text (l .back .place)) on (by-words (said text) refl (sym (ap (λ (l : Left). l .back .refusal) on) ∙ e))
+    where
+      by-words : (w : Words) → said text ≡ w → leftBy w lent .back .refusal ≡ numberOf Solution → FirstWrong (b .table) text (leftBy w lent .back .place)
+      by-words (words value row) f z = absurd (omega arith)
+      by-words (stop line) f z = stops-first (b .table) passes text line f
 
 -- Where no flow is above its capacity all are within.
 above-within : (place : ℕ) (capacities flow : List ℕ) → length capacities ≤ length flow → isFine (firstAbove place capacities flow) ≡ true → Within capacities flow

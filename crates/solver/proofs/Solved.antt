@@ -22,6 +22,7 @@ use Rattle.table.proofs.Accepts.{check-accepts}
 use Rattle.reach.specs.Side.{sideOf}
 use Rattle.reach.proofs.Side.{length-of-side}
 use Rattle.run.specs.Phase.{run, value}
+use Rattle.run.specs.Demands.{Best}
 use Rattle.run.specs.declared.Outcome.{Outcome}
 use Rattle.run.proofs.Networks.{accepted-sound}
 use Rattle.run.proofs.Whole.{run-bounded}
@@ -55,6 +56,34 @@ source-sums t ok flow same =
     let heads-long : length (t .heads) ≡ arcs t = omega (arith, ok .rows .ends .heads-long, ok .rows .capacities-long) in
     let tails-long : length (t .tails) ≡ arcs t = omega (arith, ok .rows .capacities-long) in
     rw (same, heads-long, tails-long) (omega (arith, run-best t ok .net))
+
+-- ---- a solved table's rows
+
+module _ (t : Table) (ok : Accepted t) where
+  -- The flow at the end.
+  abbrev done : List ℕ
+  done = run t .state .flow
+
+  -- The first m flows are the run's,
+  pub solved-flows : (flow : List ℕ) → take (arcs t) (done ++ drop (arcs t) flow) ≡ done
+  solved-flows flow = take-at done (drop (arcs t) flow) (arcs t) (run-fits t ok .flow)
+
+  -- and the first n marks are the side.
+  pub solved-marks : (side : List ℕ) → take (t .nodes) (sideOf t done ++ drop (t .nodes) side) ≡ sideOf t done
+  solved-marks side =
+      take-at (sideOf t done) (drop (t .nodes) side) (t .nodes)
+      (length-of-side (networkOf t) (atPlace done) (accepted-sound t ok))
+
+  -- So these rows hold the best answer.
+  solved-best : (flow side : List ℕ)
+      → Best t (take (arcs t) (done ++ drop (arcs t) flow)) (take (t .nodes) (sideOf t done ++ drop (t .nodes) side)) (value t done)
+  solved-best flow side = rw (solved-flows flow, solved-marks side) (run-best t ok)
+
+-- Demands 2 and 3 hold of an accepted table that is solved.
+pub solved-meets : (t : Table) (stamp : ℕ) (flow side work : List ℕ) → Accepted t → Meets t (solved t stamp flow side work)
+unfolding solved answerWith
+solved-meets t stamp flow side work ok =
+    record { best = solved-best t ok flow side; bounded = run-bounded t ok }
 
 -- ---- the answer of its parts
 
@@ -129,23 +158,9 @@ module _ (t : Table) (stamp : ℕ) (flow side work : List ℕ) (v : Verdict) (fo
   fine-roomy e =
       room-roomy _ _ _ _ _ (check-accepts t (hasRoom (t .nodes) (arcs t) (length flow) (length side) (length work)) (ap isFine (sym found ∙ e)) .1)
 
--- ---- a solved table's rows
+-- ---- rows handed over
 
 module _ (t : Table) (ok : Accepted t) where
-  -- The flow at the end.
-  abbrev done : List ℕ
-  done = run t .state .flow
-
-  -- The first m flows are the run's,
-  pub solved-flows : (flow : List ℕ) → take (arcs t) (done ++ drop (arcs t) flow) ≡ done
-  solved-flows flow = take-at done (drop (arcs t) flow) (arcs t) (run-fits t ok .flow)
-
-  -- and the first n marks are the side.
-  pub solved-marks : (side : List ℕ) → take (t .nodes) (sideOf t done ++ drop (t .nodes) side) ≡ sideOf t done
-  solved-marks side =
-      take-at (sideOf t done) (drop (t .nodes) side) (t .nodes)
-      (length-of-side (networkOf t) (atPlace done) (accepted-sound t ok))
-
   -- What was solved in rows of a call's own and is handed over leaves the lent rows as solving leaves them.
   pub handed-over : (stamp : ℕ) (flow side work own-flow own-side own-work : List ℕ) (a : Answer) (flow-own side-own work-own flow-left side-left work-left : List ℕ)
       → left a flow-own side-own work-own ≡ solved t stamp own-flow own-side own-work
@@ -155,15 +170,9 @@ module _ (t : Table) (ok : Accepted t) where
   unfolding solved
   handed-over stamp flow side work own-flow own-side own-work a flow-own side-own work-own flow-left side-left work-left e f g h =
       same-left (ap (λ (l : Left). l .answer) e)
-      (f ∙ ap (λ (l : List ℕ). l ++ drop (arcs t) flow) (ap (λ (l : Left). take (arcs t) (l .flow)) e ∙ solved-flows own-flow))
-      (g ∙ ap (λ (l : List ℕ). l ++ drop (t .nodes) side) (ap (λ (l : Left). take (t .nodes) (l .side)) e ∙ solved-marks own-side))
+      (f ∙ ap (λ (l : List ℕ). l ++ drop (arcs t) flow) (ap (λ (l : Left). take (arcs t) (l .flow)) e ∙ solved-flows t ok own-flow))
+      (g ∙ ap (λ (l : List ℕ). l ++ drop (t .nodes) side) (ap (λ (l : Left). take (t .nodes) (l .side)) e ∙ solved-marks t ok own-side))
       h
-
--- Demands 2 and 3 hold of an accepted table that is solved.
-pub solved-meets : (t : Table) (stamp : ℕ) (flow side work : List ℕ) → Accepted t → Meets t (solved t stamp flow side work)
-unfolding solved answerWith
-solved-meets t stamp flow side work ok =
-    record { best = rw (solved-flows t ok flow, solved-marks t ok side) (run-best t ok); bounded = run-bounded t ok }
 
 -- What refuses nothing meets demands 2 and 3.
 pub solving-meets : (t : Table) (stamp : ℕ) (flow side work : List ℕ) (l : Left) → l ≡ solving t stamp flow side work → l .answer .refusal ≡ 0 → Meets t l

@@ -7,8 +7,7 @@ use borrow.Author.Tests.{ne-eqb}
 use lib.Dec.{eqb}
 use Rattle.rows.specs.Sum.{only}
 use Rattle.rows.proofs.Sums.{only-false}
-use Rattle.network.specs.Network.{Network, inflow, outflow, nearEnd, farEnd}
-use Rattle.network.proofs.Notions.{Sound, NoMinimums}
+use Rattle.network.specs.Network.{Network, inflow, outflow, nearEnd, farEnd, Sound, NoMinimums}
 use Rattle.network.proofs.Steps.{State, Chosen, Eligible, push, amount, Steps, no-steps, saturating, nonsaturating, relabels}
 use Rattle.network.proofs.Facts.{Facts}
 use Rattle.network.proofs.Push.{Allowed, amount-allowed, push-balance}

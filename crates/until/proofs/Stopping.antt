@@ -11,15 +11,19 @@ use Rattle.table.specs.Accepted.{Accepted}
 use Rattle.run.specs.Phase.{Run, run, value}
 use Rattle.run.specs.Rows.{steps}
 use Rattle.until.specs.Stepwise.{afterSteps}
-use Rattle.until.specs.Stopping.{intoSink, reaches, stepsUntil, stopped, Stops}
+use Rattle.until.specs.Stopping.{intoSink, reaches, stopsAfter, stepsUntil, stopped, Stops}
 use Rattle.until.proofs.Stepwise.{run-after, run-stays, counted-after}
 use Rattle.until.proofs.Growing.{Grows, steps-grow, sink-never-falls, end-value}
 
 module _ (t : Table) (q : ℕ) where
-  -- Where q is reached the run stops,
+  -- Where q is reached after some steps, the run stops after these.
+  reached-stops : (j : ℕ) → reaches t q (afterSteps t j) ≡ true → stopsAfter t q j ≡ true
+  reached-stops j e = e
+
+  -- So it takes no further step,
   until-stays : (most : ℕ) → reaches t q (afterSteps t (stepsUntil t q most)) ≡ true → stepsUntil t q (suc most) ≡ stepsUntil t q most
   unfolding stepsUntil
-  until-stays most e = ap (λ (b : Bool). cond b (stepsUntil t q most) (suc (stepsUntil t q most))) e
+  until-stays most e = ap (λ (b : Bool). cond b (stepsUntil t q most) (suc (stepsUntil t q most))) (reached-stops (stepsUntil t q most) e)
 
   -- and else it goes on.
   until-goes : (most : ℕ) → reaches t q (afterSteps t (stepsUntil t q most)) ≡ false → stepsUntil t q (suc most) ≡ suc (stepsUntil t q most)

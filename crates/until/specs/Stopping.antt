@@ -20,11 +20,15 @@ intoSink t flow = inflow (networkOf t) (atPlace flow) (t .sink) - outflow (netwo
 abbrev pub reaches : Table → (q : ℕ) → Run → Bool
 reaches t q r = leb q (intoSink t (r .state .flow))
 
+-- Whether the run stops after its first j steps: the net flow into the sink has reached q.
+abbrev pub stopsAfter : Table → (q j : ℕ) → Bool
+stopsAfter t q j = reaches t q (afterSteps t j)
+
 -- How many of its first `most` steps the run takes, if it stops as soon as the net flow into the sink reaches q.
 unfoldable pub stepsUntil : Table → (q most : ℕ) → ℕ
 unfolding intoSink stageAfter
 stepsUntil t q zero = zero
-stepsUntil t q (suc most) = let j = stepsUntil t q most in cond (reaches t q (afterSteps t j)) j (suc j)
+stepsUntil t q (suc most) = let j = stepsUntil t q most in cond (stopsAfter t q j) j (suc j)
 
 -- The run stopped at the first moment at which the net flow into the sink has reached q, or else at its end.
 unfoldable pub stopped : Table → (q : ℕ) → Run

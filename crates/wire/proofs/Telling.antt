@@ -32,7 +32,7 @@ zeros-are zero = refl
 zeros-are (suc m) = zeros-are m
 
 -- There is a minimum for each arc, and all are 0.
-no-minimums : (t : Table) → plain (withoutMinimums t) ≡ true
+pub no-minimums : (t : Table) → plain (withoutMinimums t) ≡ true
 no-minimums t = rw (eq-eqb (length {A = ℕ} (replicate (arcs t) 0)) (arcs t) (length-replicate (arcs t) 0)) (zeros-are (arcs t))
 
 -- As many of 4,096 zeros as a table has arcs are its minimums.

@@ -3,3 +3,4 @@ pub mod Numbers
 pub mod Lengths
 pub mod Saying
 pub mod Speaking
+pub mod Stopping

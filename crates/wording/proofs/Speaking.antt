@@ -1,7 +1,7 @@
 -- A text says some value and some row within the capacities exactly if it is their text.
 use Prim.Native.Nat.{ℕ, zero, suc, _*_, _<_, _≤_}
 use mathlib.Core.Path.{_≡_, refl, sym, ap, _∙_}
-use mathlib.Core.Bool.{Bool, cond}
+use mathlib.Core.Bool.{Bool, true, cond}
 use mathlib.Core.List.{List, [], _∷_, _++_, append-assoc}
 use native.Mathlib.Omega.{arith}
 use lib.Dec.{ltb}
@@ -47,16 +47,26 @@ module _ (front : List ℕ) (one-line : Without LF front) (number : ℕ) (fits :
       drop-past [] b ys = refl
       drop-past (x ∷ xs) b ys = drop-past xs b ys
 
+  -- its bytes before the LF are its beginning and the number,
+  pub line-first : firstLine (lineOf front number ++ rest) ≡ front ++ printed number
+  line-first =
+      let line = front ++ printed number in
+      rw (line-end, line-parts front number rest) (take-at line (LF ∷ rest) (length line) refl)
+
+  -- it has its LF,
+  pub line-ended : isEnded (lineOf front number ++ rest) ≡ true
+  line-ended =
+      let line = front ++ printed number in
+      let long : length line < length (lineOf front number ++ rest) = rw (line-parts front number rest, length-append line (LF ∷ rest)) (omega arith) in
+      rw line-end (lt-ltb (length line) (length (lineOf front number ++ rest)) long)
+
   -- and it says the number.
   pub line-says : (most : ℕ) → number ≤ most → firstNumber front most (lineOf front number ++ rest) ≡ Value number
   unfolding firstNumber
   line-says most h =
       let line = front ++ printed number in
-      let first : take (length line) (lineOf front number ++ rest) ≡ line = rw (line-parts front number rest) (take-at line (LF ∷ rest) (length line) refl) in
-      let long : length line < length (lineOf front number ++ rest) = rw (line-parts front number rest, length-append line (LF ∷ rest)) (omega arith) in
       let behind : drop (length front) line ≡ printed number = drop-at front (printed number) (length front) refl in
-      rw (line-end, lt-ltb (length line) (length (lineOf front number ++ rest)) long, first)
-      (behind-value front line most number (begins-front front (printed number)) (ap numberIn behind ∙ printed-says number fits) h)
+      rw (line-ended, line-first) (behind-value front line most number (begins-front front (printed number)) (ap numberIn behind ∙ printed-says number fits) h)
 
 -- A number that is not above `most`, of a number.
 not-above : (most : ℕ) (found : Number) (x : ℕ) → notAbove most found ≡ Value x → (found ≡ Value x) × (x ≤ most)

@@ -1,14 +1,16 @@
 -- Document 02, CR 1: what a text says of its table, line by line; the first line that no solution text has there ends it.
-use Prim.Native.Nat.{ℕ, suc}
-use mathlib.Core.Bool.{Bool, cond}
+use Prim.Native.Nat.{ℕ, zero, suc}
+use mathlib.Core.Path.{_≡_}
+use mathlib.Core.Bool.{Bool, true, cond}
 use mathlib.Core.List.{List, [], _∷_, _++_}
 use lib.Dec.{ltb}
 use lib.ListN.{length, take, drop}
+use Rattle.table.specs.Table.{Table}
 use Rattle.scan.specs.declared.Number.{Number}
 use Rattle.scan.specs.declared.Number.the-variants.{Value, NoNumber}
 use Rattle.scan.specs.Parts.{LF, upTo, beginsWith}
 use Rattle.scan.specs.Numbers.{numberIn}
-use Rattle.wording.specs.Text.{valueFront, flowFront, mostValue}
+use Rattle.wording.specs.Text.{valueFront, flowFront, mostValue, IsSolution}
 
 -- The first line of some bytes, without its LF,
 abbrev pub firstLine : List ℕ → List ℕ
@@ -77,3 +79,21 @@ wordsFrom NoNumber said = stop 1
 unfoldable pub textWords : (tails heads capacities text : List ℕ) → Words
 textWords tails heads capacities text =
     wordsFrom (firstNumber valueFront mostValue text) (flowsSaid tails heads capacities 2 (behindLine text))
+
+-- Two texts have their first lines in common, so many, each with its LF.
+unfoldable pub Shares : (count : ℕ) (text other : List ℕ) → Type 0
+Shares zero text other = Unit {0}
+Shares (suc count) text other =
+    (isEnded text ≡ true) × (isEnded other ≡ true) × (firstLine text ≡ firstLine other) × Shares count (behindLine text) (behindLine other)
+
+-- The line of this number is the first that no solution text of the table has there: some solution text has the lines before it, and none has these
+-- and this one (proved: stops-first). A line that is missing, or has no LF, no text has.
+pub record FirstWrong (t : Table) (text : List ℕ) (line : ℕ) : Type 0 where
+  pub before : ℕ
+  pub next : line ≡ suc before
+  pub other : List ℕ
+  pub value : ℕ
+  pub row : List ℕ
+  pub solution : IsSolution t other value row
+  pub so-far : Shares before text other
+  pub no-further : (other : List ℕ) (value : ℕ) (row : List ℕ) → IsSolution t other value row → Shares (suc before) text other → ⊥

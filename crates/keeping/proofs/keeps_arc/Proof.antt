@@ -1,7 +1,7 @@
 -- `keeps_arc` meets its contract, test by test.
 use mathlib.Core.Path.{_≡_, sym, _∙_}
 use mathlib.Core.Bool.{true}
-use Prim.Native.Nat.{_≤_}
+use Prim.Native.Nat.{_≤_, _<_}
 use native.Mathlib.Omega.{arith}
 use borrow.Author.Tests.{lt-ltb, le-ltb, not-true, not-false}
 use lib.Dec.{ltb}
@@ -20,7 +20,10 @@ ends c = omega (arith, c .pre .1, c .pre .0 .tail-node (c .args .k) (c .pre .3),
 
 -- The arc has capacity above 0.
 some : (c : tie.Else1) → ltb 0 (atPlace (c .before .before .before .before .before .before .before .args .capacities .now) (c .before .before .before .before .before .before .before .args .k)) ≡ true
-some c = lt-ltb 0 _ (c .if1 .left)
+some c =
+    let args = c .before .before .before .before .before .before .before .args in
+    let above : 0 < atPlace (args .capacities .now) (args .k) = omega (arith, c .if1 .left) in
+    lt-ltb 0 (atPlace (args .capacities .now) (args .k)) above
 
 mul-if1 : tie.Need-mul-if1
 mul-if1 c = search needs

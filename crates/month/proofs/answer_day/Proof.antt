@@ -1,4 +1,5 @@
 -- `answer_day` meets its contract: the day's numbers are read, and its parts lent.
+use native.Mathlib.Omega.{arith}
 use Rattle.days.specs.Days.{Days, daysOf}
 use Rattle.days.proofs.Starting.{day-inside}
 use Rattle.days.proofs.Course.{day-is}
@@ -51,7 +52,8 @@ solve-part-requires : tie.Need-solve-part-requires
 solve-part-requires c κs =
     let ends = c .before .before .before .before .before .before .before in
     let start = ends .before .before .before .before .before .before .before .before .before .before .before .before .before .before in
-    day-inside (days start) _ _ _ (start .pre .1 .1) (start .args .j) (start .pre .0) (ends .before .start-of .ensures) (ends .start-of2 .ensures)
+    let (arcs, rows) = day-inside (days start) _ _ _ (start .pre .1 .1) (start .args .j) (start .pre .0) (ends .before .start-of .ensures) (ends .start-of2 .ensures) in
+    (arcs, (rows .0, omega (arith, rows .1)))
 
 same-length : tie.Need-same-length
 same-length c = search needs

@@ -1,13 +1,12 @@
 -- `reduce` meets its contract: the checks in their order, then the accepted table. The rest of the promise follows from the equation.
 use mathlib.Core.Path.{_≡_, ap, _∙_}
 use mathlib.Core.Bool.{_&&_}
-use lib.ListN.{length, take}
+use lib.ListN.{length}
 use Rattle.minimums.specs.BoundedTable.{BoundedTable, boundedOf}
 use Rattle.minimums.specs.Checks.{plainCheck}
-use Rattle.run.specs.Demands.{Best}
 use Rattle.keeping.specs.SmallRows.{SmallRows, smallRows}
-use Rattle.smaller.specs.Reducing.{LeftReduced, hasSmallRoom, reducingVerdict, reducing}
-use Rattle.smaller.proofs.Reducing.{refused-reducing, fine-reducing, fine-accepted, fine-roomy, reducing-best}
+use Rattle.smaller.specs.Reducing.{LeftReduced, hasSmallRoom, reducingVerdict, reducing, Reduces}
+use Rattle.smaller.proofs.Reducing.{refused-reducing, fine-reducing, fine-accepted, fine-roomy, reducing-reduces}
 use borrow.Author.Needs.{needs}
 use Rattle.smaller.proofs.reduce.Statement.{statement}
 use Rattle.smaller.proofs.reduce.Tie as tie
@@ -39,8 +38,8 @@ module _ (c : tie.After-plain-check) where
 
   -- The equation gives the whole promise.
   whole : (l : LeftReduced) → l ≡ answered
-      → (l ≡ answered) × (l .reduced .answer .refusal ≡ 0 → Best (bounded .table) (take (length (begun .args .capacities .now)) (l .flow)) (take (begun .args .n) (l .side)) (l .reduced .answer .value))
-  whole l e = (e, reducing-best bounded (begun .args .stamp) (begun .args .flow .now) (begun .args .side .now) (begun .args .work .now) small l e)
+      → (l ≡ answered) × (l .reduced .answer .refusal ≡ 0 → Reduces (bounded .table) l)
+  whole l e = (e, reducing-reduces bounded (begun .args .stamp) (begun .args .flow .now) (begun .args .side .now) (begun .args .work .now) small l e)
 
 has-room-requires : tie.Need-has-room-requires
 has-room-requires c κs = search needs
