@@ -1,4 +1,4 @@
--- `solve_accepted` meets its contract: document 01's solving with its value signed, or solving with minimums, at either place.
+-- `solve_accepted` meets its contract: document 01's solving with its value signed, or solving with minimums.
 use Prim.Native.Nat.{_≤_}
 use mathlib.Core.Path.{sym, subst}
 use Rattle.table.specs.Table.{tableOf}
@@ -54,27 +54,9 @@ same-length-6 c = search needs
 
 returns-2 : tie.Need-returns-2
 returns-2 c =
-    let some = c .before .before .before .before .before .before .before .before .before .before .before in
-    let start = c .before .before .before .before .before .before .before .before .before .before .before .before .before .before .before .before .before .before .before .before in
+    let some = c .before .before .before .before .before .before .before .before .before .before in
+    let start = c .before .before .before .before .before .before .before .before .before .before .before .before .before .before .before .before .before .before .before in
     fine-bounded (boundedOf (start .args .n) (start .args .s) (start .args .t) (start .args .tails .now) (start .args .heads .now) (start .args .capacities .now) (start .args .minimums .now)) (start .args .stamp) (start .args .flow .now) (start .args .side .now) (start .args .work .now) _ (some .if1 .left) (some .before .is-all-zero .ensures) (c .before .before .before .before .before .before .solve-some .ensures)
-
-solve-some-requires-2 : tie.Need-solve-some-requires-2
-solve-some-requires-2 c κs = search needs
-
-same-length-7 : tie.Need-same-length-7
-same-length-7 c = search needs
-
-same-length-8 : tie.Need-same-length-8
-same-length-8 c = search needs
-
-same-length-9 : tie.Need-same-length-9
-same-length-9 c = search needs
-
-returns-3 : tie.Need-returns-3
-returns-3 c =
-    let some = c .before .before .before .before .before .before .before .before .before .before .before in
-    let start = c .before .before .before .before .before .before .before .before .before .before .before .before .before .before .before .before .before .before .before .before in
-    fine-bounded (boundedOf (start .args .n) (start .args .s) (start .args .t) (start .args .tails .now) (start .args .heads .now) (start .args .capacities .now) (start .args .minimums .now)) (start .args .stamp) (start .args .flow .now) (start .args .side .now) (start .args .work .now) _ (some .if1 .left) (some .before .is-all-zero .ensures) (c .before .before .before .before .before .before .solve-some2 .ensures)
 
 pub solve-accepted-spec : {M : Type 1} → statement M
 solve-accepted-spec =
@@ -91,9 +73,4 @@ solve-accepted-spec =
     same-length-4
     same-length-5
     same-length-6
-    returns-2
-    solve-some-requires-2
-    same-length-7
-    same-length-8
-    same-length-9
-    returns-3)
+    returns-2)
