@@ -1,11 +1,12 @@
 // The lines of a rota maker's solution text (document 02, CR 8): what each is, whether they stand in order, and the amounts that they say.
+#![tactic(auto)]
 ghost use Rattle.std.specs.Prelude.{◌≡◌, ◌≤◌, length};
 ghost use Rattle.amounts.specs.Lines.{value_of, flow_of, kind_of, step_of, end_of, judged};
 
 use scan::Number;
 
 // The tail, the head and the flow of an `f` line.
-#[derive(Drop)]
+#[derive(Clone, Copy)]
 pub struct Amount {
     pub tail: u32,
     pub head: u32,
@@ -13,7 +14,7 @@ pub struct Amount {
 }
 
 // What a line is.
-#[derive(Drop)]
+#[derive(Clone, Copy)]
 pub enum Kind {
     Comment,
     ValueLine(u32),
@@ -22,14 +23,14 @@ pub enum Kind {
 }
 
 // What one more line does: the lines go on, with the value that the `s` line has said by then, or it is at fault.
-#[derive(Drop)]
+#[derive(Clone, Copy)]
 pub enum Step {
     On(Number),
     Stop,
 }
 
 // What the lines say: the value of the `s` line, or the first line at fault.
-#[derive(Drop)]
+#[derive(Clone, Copy)]
 pub enum Judged {
     Says(u32),
     Fault(u32),

@@ -1,8 +1,9 @@
 // Document 02, CR 7: the question whether a table has room for at least q, and its answer: definitions in specs/, what holds of them in proofs/.
+#![tactic(auto)]
 
 // What the question returns: a refusal's number and place, or 0 with 1 for yes and 0 for no, and the results of the run that stopped.
 #[repr(C)]
-#[derive(Drop)]
+#[derive(Clone, Copy)]
 pub struct Room {
     pub refusal: u32,
     pub place: u32,

@@ -1,4 +1,5 @@
 // Going on from a flow along chains of fewest residual arcs, each filled by its least residual, until the sink can't be reached.
+#![tactic(auto)]
 ghost use Rattle.std.specs.Prelude.{ℕ, ◌+◌, ◌-◌, ◌≤◌, ◌<◌, min, ◌≡◌, cond, ◌⊎◌, length, get_or, set, replicate, eqb};
 ghost use Rattle.rows.specs.Row.{at_node, Node};
 ghost use Rattle.arcs.specs.Work.{InWork};
@@ -213,7 +214,7 @@ pub fn lesser(a: u32, b: u32) -> u32
 }
 
 // How a walk ended: the least residual of its chain, or 0 where it did not arrive; and the node where it ended.
-#[derive(Drop)]
+#[derive(Clone, Copy)]
 struct Outcome {
     least: u32,
     end: u32,

@@ -1,4 +1,5 @@
 // Document 02, CR 11: solves a table whose arcs have a least flow: a flow of greatest value among those that keep every arc between its two numbers.
+#![tactic(auto)]
 ghost use Rattle.std.specs.Prelude.{◌≡◌, ◌++◌, ℕ, ◌+◌, ◌-◌, ◌≤◌, ◌<◌, pos, ◌-ℤ◌, length, drop};
 ghost use Rattle.rows.specs.Row.{at_place, by_place};
 ghost use Rattle.start.specs.Sums.{sum_at};
@@ -9,7 +10,7 @@ ghost use Rattle.bounded.specs.Solving.{Solvable, OwnRows, Above, Leaves};
 ghost use Rattle.bounded.specs.declared.Bounded.TheVariants.{Value};
 
 // What solving answers: no flow keeps all arcs between their numbers, or the greatest value.
-#[derive(Drop)]
+#[derive(Clone, Copy)]
 pub enum Bounded {
     Impossible,
     Value(i64),

@@ -1,4 +1,5 @@
 // Document 02, CR 3: show who sits where. Solves a table and lists its chains from source to sink, and its rings.
+#![tactic(auto)]
 ghost use Rattle.std.specs.Prelude.{◌≡◌, ◌≤◌, length};
 ghost use Rattle.rows.specs.Row.{Node};
 ghost use Rattle.solver.specs.Solving.{GivenRoom};
@@ -12,7 +13,7 @@ use table::{Name, Verdict};
 
 // What listing returns: what solving returns, and how many numbers of the list were filled.
 #[repr(C)]
-#[derive(Drop)]
+#[derive(Clone, Copy)]
 pub struct Listed {
     pub answer: Answer,
     pub filled: u32,

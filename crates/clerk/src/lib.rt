@@ -1,9 +1,10 @@
 // The clerk: reads a table's text from an open file and answers it on standard output, for the programs that do so.
+#![tactic(auto)]
 ghost use Rattle.std.specs.Prelude.{◌≤◌, length};
 ghost use Rattle.clerk.specs.Reading.{TurnWithin, TakenWithin};
 
 // What one read says: the row is filled so far, the input has ended, or the read failed.
-#[derive(Drop)]
+#[derive(Clone, Copy)]
 pub enum Turn {
     Filled(usize),
     Ended,
@@ -11,14 +12,14 @@ pub enum Turn {
 }
 
 // What reading a file says: it was read to its end, or until the row was full, so many bytes; or a read failed.
-#[derive(Drop)]
+#[derive(Clone, Copy)]
 pub enum Taken {
     Whole(usize),
     Failed,
 }
 
 // How the answering of a text ended: it was answered, it was refused, or it was not read or not written.
-#[derive(Drop)]
+#[derive(Clone, Copy)]
 pub enum Ending {
     Answered,
     Refused,

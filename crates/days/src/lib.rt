@@ -1,8 +1,9 @@
 // A month of day tables: what it returns. Definitions and lemmas otherwise, no code.
+#![tactic(auto)]
 
 // What the call returns: a refusal's number and place, or 0 with the tables solved, the total value and the first solved day of least value.
 #[repr(C)]
-#[derive(Drop)]
+#[derive(Clone, Copy)]
 pub struct Month {
     pub refusal: u32,
     pub place: u32,

@@ -1,4 +1,5 @@
 // Reading a text, and what the desk prints for one, under C names: for the host's comparisons.
+#![tactic(auto)]
 ghost use Rattle.std.specs.Prelude.{◌≡◌};
 ghost use Rattle.text.specs.Reading.{values_of};
 ghost use Rattle.counter.specs.Desk.{Served};
@@ -8,7 +9,7 @@ use text::Given;
 
 // What reading a text returns: a refusal's number and place, or 0 with n, m, s and t.
 #[repr(C)]
-#[derive(Drop)]
+#[derive(Clone, Copy)]
 pub struct Text {
     pub refusal: u32,
     pub place: u32,

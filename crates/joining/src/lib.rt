@@ -1,4 +1,5 @@
 // Document 02, CR 11: the rows of the joined network.
+#![tactic(auto)]
 ghost use Rattle.std.specs.Prelude.{◌≡◌, ◌-◌, ◌≤◌, ◌<◌, length};
 ghost use Rattle.rows.specs.Row.{by_place};
 ghost use Rattle.table.specs.Accepted.{ArcEnds};
@@ -16,7 +17,7 @@ pub fn held_at(ends: &[u32], row: &[u32], i: u32) -> u32
 }
 
 // The ends of an arc.
-#[derive(Drop)]
+#[derive(Clone, Copy)]
 struct Ends {
     tail: u32,
     head: u32,

@@ -1,4 +1,5 @@
 // Which nodes and arcs a smaller table keeps: listed, numbered and written, over bare rows; and its flow put back.
+#![tactic(auto)]
 ghost use Rattle.std.specs.Prelude.{◌≡◌, true, cond, map, ◌++◌, ℕ, suc, ◌+◌, ◌≤◌, ◌<◌, length, take, drop};
 ghost use Rattle.rows.specs.Row.{Node, at_place, at_node, by_place, by_node};
 ghost use Rattle.table.specs.Accepted.{ArcEnds};
@@ -212,7 +213,7 @@ fn fill_arcs(
 }
 
 // The smaller table's sizes and ends.
-#[derive(Drop)]
+#[derive(Clone, Copy)]
 pub struct Sizes {
     pub nodes: u32,
     pub arcs: u32,

@@ -1,1 +1,2 @@
 // Little-endian numbers: definitions and lemmas only, no code.
+#![tactic(auto)]

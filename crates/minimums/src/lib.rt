@@ -1,4 +1,5 @@
 // The checks of a table whose arcs have a least flow (document 02, CR 11): of its four rows, and of a call that takes no minimum above 0.
+#![tactic(auto)]
 ghost use Rattle.std.specs.Prelude.{◌≡◌, Bool, ◌≤◌, length};
 ghost use Rattle.table.specs.Table.{Table};
 ghost use Rattle.table.specs.Checks.{check_of};
@@ -9,7 +10,7 @@ use table::{Name, Verdict};
 
 // A record of one arc: tail, head, capacity and least flow together.
 #[repr(C)]
-#[derive(Drop)]
+#[derive(Clone, Copy)]
 pub struct Arc {
     pub tail: u32,
     pub head: u32,

@@ -1,4 +1,5 @@
 // Document 02, CR 13: which opening would help. The places whose arc, raised by one unit, would raise the value by one; the source side; the nodes that reach the sink.
+#![tactic(auto)]
 ghost use Rattle.std.specs.Prelude.{◌≡◌, true, ◌&&◌, ◌≤◌, ◌<◌, length, take};
 ghost use Rattle.rows.specs.Row.{Node};
 ghost use Rattle.table.specs.Table.{lent_table, given_table};
@@ -17,7 +18,7 @@ use table::{Name, Verdict};
 
 // What the call returns: solving's result, and how many numbers of each list were filled.
 #[repr(C)]
-#[derive(Drop)]
+#[derive(Clone, Copy)]
 pub struct Openings {
     pub answer: Answer,
     pub sources: u32,

@@ -1,6 +1,7 @@
 // Writes bytes and numbers into a lent row of bytes.
 //
 // Each function writes from a place on, as far as the row goes, and returns the place behind what it wrote.
+#![tactic(auto)]
 ghost use Rattle.std.specs.Prelude.{◌≤◌, false, [], ◌∷◌, ◌++◌, length};
 ghost use Rattle.table.specs.Ascii.{bytes};
 ghost use Rattle.pen.specs.Wrote.{Wrote};

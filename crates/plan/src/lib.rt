@@ -1,4 +1,5 @@
 // Document 02, CR 8: checks a rota maker's plan, whether its solution text with its side marks shows a full week.
+#![tactic(auto)]
 ghost use Rattle.std.specs.Prelude.{ℕ, ◌+◌, ◌≤◌, ◌≡◌, true, false, not, ◌&&◌, eqb, length};
 ghost use Rattle.rows.specs.Row.{Node, at_place};
 ghost use Rattle.rows.specs.Sum.{only};
@@ -21,7 +22,7 @@ use table::{Name, Verdict};
 
 // What checking returns: a refusal's number and place, or 0 with 1 where the plan is full, else 0.
 #[repr(C)]
-#[derive(Drop)]
+#[derive(Clone, Copy)]
 pub struct Checked {
     pub refusal: u32,
     pub place: u32,

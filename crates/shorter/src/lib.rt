@@ -1,4 +1,5 @@
 // Document 02, CR 13, the second call: the filled part of the shorter of two lists.
+#![tactic(auto)]
 ghost use Rattle.std.specs.Prelude.{◌≡◌, ◌≤◌, ◌<◌, length, take};
 ghost use Rattle.shorter.specs.Shorter.{shorter_of, left_part, copied};
 
@@ -30,7 +31,7 @@ pub fn shorter<'a>(first: &'a [u32], second: &'a [u32], in_first: u32, in_second
 
 // What copying that part returns: a refusal's number and place, or 0 and how many numbers were copied.
 #[repr(C)]
-#[derive(Drop)]
+#[derive(Clone, Copy)]
 pub struct Part {
     pub refusal: u32,
     pub place: u32,

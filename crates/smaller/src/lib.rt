@@ -1,4 +1,5 @@
 // Document 02, CR 14: the table without the arcs and nodes that can't matter, solved, and its flow put back.
+#![tactic(auto)]
 ghost use Rattle.std.specs.Prelude.{◌≡◌, ◌≤◌, ◌&&◌, ◌++◌, length, take, drop, replicate};
 ghost use Rattle.rows.specs.Row.{by_place, cleared};
 ghost use Rattle.table.specs.Table.{table_of, lent_table, given_table};
@@ -110,7 +111,7 @@ fn put_all_back(
 
 // What the call returns: solving's result of the smaller table under the old stamp, and the smaller table's sizes, ends and stamp.
 #[repr(C)]
-#[derive(Drop)]
+#[derive(Clone, Copy)]
 pub struct Reduced {
     pub answer: Answer,
     pub nodes: u32,

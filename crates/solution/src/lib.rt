@@ -1,4 +1,5 @@
 // Document 02, CR 1: writes a solution as DIMACS solution text, and reads such a text back against its table.
+#![tactic(auto)]
 ghost use Rattle.std.specs.Prelude.{◌≡◌, ◌≤◌, length, drop};
 ghost use Rattle.table.specs.Table.{lent_table};
 ghost use Rattle.table.specs.Refusals.{number_of};
@@ -18,7 +19,7 @@ use table::{Name, Verdict};
 
 // What writing returns: a refusal's number and place, or 0 with how many bytes were filled.
 #[repr(C)]
-#[derive(Drop)]
+#[derive(Clone, Copy)]
 pub struct Written {
     pub refusal: u32,
     pub place: u32,
@@ -27,7 +28,7 @@ pub struct Written {
 
 // What reading back returns: a refusal's number and place, or 0 with the value.
 #[repr(C)]
-#[derive(Drop)]
+#[derive(Clone, Copy)]
 pub struct ReadBack {
     pub refusal: u32,
     pub place: u32,
@@ -35,7 +36,7 @@ pub struct ReadBack {
 }
 
 // What was found of the lines of the arcs: all of them, or the first that no solution text has there.
-#[derive(Drop)]
+#[derive(Clone, Copy)]
 pub enum Lines {
     All,
     Stop(u32),

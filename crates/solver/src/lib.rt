@@ -1,4 +1,5 @@
 // Solving: the room that it asks for; and of an accepted table with room the nodes' lists, the run, the value and the side.
+#![tactic(auto)]
 ghost use Rattle.std.specs.Prelude.{◌≡◌, ◌++◌, ◌^◌, ◌≤◌, ◌<◌, length, take, drop};
 ghost use Rattle.rows.specs.Row.{cleared};
 ghost use Rattle.table.specs.Table.{lent_table, given_table};
@@ -12,7 +13,7 @@ use table::Name;
 
 // What solving returns: a refusal's number and place, or 0 with the results.
 #[repr(C)]
-#[derive(Drop)]
+#[derive(Clone, Copy)]
 pub struct Answer {
     pub refusal: u32,
     pub place: u32,

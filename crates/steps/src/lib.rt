@@ -1,4 +1,5 @@
 // The parts of a step over bare rows: search, push and relabel.
+#![tactic(auto)]
 ghost use Rattle.std.specs.Prelude.{◌≡◌, true, List, ℕ, ◌+◌, ◌-◌, ◌*◌, ◌^◌, ◌≤◌, ◌<◌, min, length};
 ghost use Rattle.rows.specs.Row.{Node, at_place, at_node};
 ghost use Rattle.table.specs.Table.{table_of};
@@ -15,14 +16,14 @@ ghost use Rattle.steps.specs.Rows.{touching, AllTouch, Beside, FarEnds, SpotIs, 
 use run::Counts;
 
 // Where the arc search stopped: at a position of the node's list, the place that stands there and the arc's far end, or at the end.
-#[derive(Drop)]
+#[derive(Clone, Copy)]
 pub enum Spot {
     At(u32, u32, u32),
     End,
 }
 
 // The least label met in a node's list, and the position where it was first met.
-#[derive(Drop)]
+#[derive(Clone, Copy)]
 pub struct Lowest {
     pub label: u32,
     pub at: u32,

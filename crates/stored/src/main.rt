@@ -1,4 +1,5 @@
 // The stored runs: answers each text of data/ that an argument names, as the desk does.
+#![tactic(auto)]
 
 // Prints a stored text's name and then its answer.
 fn answer_stored(name: &[u8]) {

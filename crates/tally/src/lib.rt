@@ -1,11 +1,12 @@
 // The sums of a month's days: the tables solved, the total value and the first solved day of least value.
+#![tactic(auto)]
 ghost use Rattle.std.specs.Prelude.{◌≡◌, ◌+◌, ◌^◌, ◌<◌};
 ghost use Rattle.tally.specs.Sums.{is_lower, counted, tallied};
 
 use solver::Answer;
 
 // The sums so far: the tables solved, the total value, the first solved day of least value, and that value.
-#[derive(Drop)]
+#[derive(Clone, Copy)]
 pub struct Tally {
     pub solved: u32,
     pub total: u64,

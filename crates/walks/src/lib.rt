@@ -1,4 +1,5 @@
 // Document 02, CR 3: the list of the chains and rings of a flow, found by walks over the lowest places with flow left.
+#![tactic(auto)]
 ghost use Rattle.std.specs.Prelude.{◌≡◌, ◌&&◌, [], ◌∷◌, ◌+◌, ◌-◌, ◌^◌, ◌≤◌, ◌<◌, min, length, take, eqb, ltb};
 ghost use Rattle.std.proofs.lemmas.List.Edits.{sets};
 ghost use Rattle.rows.specs.Row.{Node};
@@ -97,7 +98,7 @@ fn start_at(source: u32, tails: &[u32], left: &[u32], first: &mut [u32], lowest:
 // ---- the walk
 
 // What a walk found: 1 for a chain or 2 for a ring, and its part of the places walked.
-#[derive(Drop)]
+#[derive(Clone, Copy)]
 struct Trip {
     kind: u32,
     from: usize,
@@ -215,7 +216,7 @@ fn take_away(left: &mut [u32], places: &[u32], amount: u32)
 }
 
 // A piece: 1 for a chain or 2 for a ring, its amount, and its part of the places walked.
-#[derive(Drop)]
+#[derive(Clone, Copy)]
 struct Taken {
     kind: u32,
     amount: u32,

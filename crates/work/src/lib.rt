@@ -1,4 +1,5 @@
 // The run over one work row, which is cut into four parts: excess, labels, list starts and list entries.
+#![tactic(auto)]
 ghost use Rattle.std.specs.Prelude.{◌≡◌, ℕ, ◌+◌, ◌-◌, ◌^◌, ◌≤◌, ◌<◌, length, set, replicate};
 ghost use Rattle.rows.specs.Row.{Node, at_node};
 ghost use Rattle.table.specs.Table.{Table, lent_table, given_table};
@@ -21,28 +22,28 @@ use run::{Choice, Counts, Outcome};
 use steps::{Lowest, Spot};
 
 // What a step answers beside the rows: the counts, and the node beside the chosen one that it changed (after a relabel that is the chosen one again).
-#[derive(Drop)]
+#[derive(Clone, Copy)]
 struct Taken {
     counts: Counts,
     other: u32,
 }
 
 // The steps taken, and the net flow into the sink.
-#[derive(Drop)]
+#[derive(Clone, Copy)]
 struct Tally {
     counts: Counts,
     sink: u64,
 }
 
 // What a turn answers beside the rows: the tally, and the choice of the next step.
-#[derive(Drop)]
+#[derive(Clone, Copy)]
 struct Turned {
     tally: Tally,
     next: Choice,
 }
 
 // What the run that stops answers beside the rows: the steps taken and the net flow into the sink; K and D of the whole run.
-#[derive(Drop)]
+#[derive(Clone, Copy)]
 pub struct Stop {
     pub counts: Counts,
     pub sink: u64,
