@@ -1,5 +1,6 @@
 // The lines of a rota maker's solution text (document 02, CR 8): what each is, whether they stand in order, and the amounts that they say.
 #![tactic(auto)]
+
 ghost use Rattle.std.specs.Prelude.{◌≡◌, ◌≤◌, length};
 ghost use Rattle.amounts.specs.Lines.{value_of, flow_of, kind_of, step_of, end_of, judged};
 

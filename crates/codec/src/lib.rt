@@ -1,5 +1,6 @@
 // Little-endian numbers of 32 and 64 bits in rows of bytes: read at a place, written at a place, and whole columns and rows of them.
 #![tactic(auto)]
+
 ghost use Rattle.std.specs.Prelude.{◌≡◌, ◌++◌, ◌+◌, ◌*◌, ◌≤◌, ◌<◌, length, drop};
 ghost use Rattle.rows.specs.Row.{part, by_place};
 ghost use Rattle.parts.specs.Placed.{placed};

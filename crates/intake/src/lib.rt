@@ -1,5 +1,6 @@
 // What is refused before a text is read against its table (document 02, CR 1 and CR 8).
 #![tactic(auto)]
+
 ghost use Rattle.std.specs.Prelude.{◌≡◌};
 ghost use Rattle.minimums.specs.BoundedTable.{lent_bounded};
 ghost use Rattle.intake.specs.Verdict.{text_verdict};

@@ -1,5 +1,6 @@
 // The checks of a table whose arcs have a least flow (document 02, CR 11): of its four rows, and of a call that takes no minimum above 0.
 #![tactic(auto)]
+
 ghost use Rattle.std.specs.Prelude.{◌≡◌, Bool, ◌≤◌, length};
 ghost use Rattle.table.specs.Table.{Table};
 ghost use Rattle.table.specs.Checks.{check_of};

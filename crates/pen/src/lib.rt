@@ -2,6 +2,7 @@
 //
 // Each function writes from a place on, as far as the row goes, and returns the place behind what it wrote.
 #![tactic(auto)]
+
 ghost use Rattle.std.specs.Prelude.{◌≤◌, false, [], ◌∷◌, ◌++◌, length};
 ghost use Rattle.table.specs.Ascii.{bytes};
 ghost use Rattle.pen.specs.Wrote.{Wrote};

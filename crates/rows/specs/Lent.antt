@@ -14,4 +14,3 @@ GivenRow = Bor (List ℕ)
 -- What a lent row held before the call: when it began.
 abbrev pub before : {A X : Type 0} → Both (Bor A) X → A
 before row = row.entry.now
-

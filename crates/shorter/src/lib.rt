@@ -1,5 +1,6 @@
 // Document 02, CR 13, the second call: the filled part of the shorter of two lists.
 #![tactic(auto)]
+
 ghost use Rattle.std.specs.Prelude.{◌≡◌, ◌≤◌, ◌<◌, length, take};
 ghost use Rattle.shorter.specs.Shorter.{shorter_of, left_part, copied};
 

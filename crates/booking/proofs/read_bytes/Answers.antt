@@ -1,0 +1,15 @@
+-- `read_bytes` meets its contract: a refusal of sizes, or a reading of the arc bytes.
+use mathlib.Core.Path.{sym, ◌∙◌}
+use Rattle.wire.specs.Rows.{arc_table}
+use Rattle.wire.proofs.Sizes.{arc_sizes}
+use Rattle.wire.proofs.Telling.{tells_sizes}
+use Rattle.booking.proofs.read_bytes.Goals as goal
+
+pub tell_arcs-requires : goal.tell_arcs-requires
+tell_arcs-requires c = sym c.sizes.ensures ∙ c.in-Fine.is
+
+pub returns-in-Refused : goal.returns-in-Refused
+returns-in-Refused c =
+            let given = c.args in
+    tells_sizes (arc_table given.n given.s given.t given.arcs.now) given.stamp given.answer given.flow.now given.side.now given.place given.result.now _ _
+    (sym (arc_sizes given.n given.s given.t given.arcs.now) ∙ sym c.sizes.ensures ∙ c.in-Refused.is) c.refused.ensures

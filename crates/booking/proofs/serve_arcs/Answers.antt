@@ -1,0 +1,56 @@
+-- `serve_arcs` meets its contract: the arc bytes are read into three rows.
+use Prim.Native.Nat.{ℕ, ◌+◌, ◌*◌, ◌/◌, ◌≤◌}
+use mathlib.Core.Path.{refl, ap, ◌∙◌}
+use native.Mathlib.Omega.{arith}
+use lib.ListN.{length}
+use Rattle.table.specs.Table.{Table}
+use Rattle.wire.proofs.Sizes.{Sized, sized, column_front, columns_table}
+use Rattle.wire.specs.Solve.{serving}
+use borrow.Author.Rules.{rules}
+use Rattle.booking.proofs.serve_arcs.Goals as goal
+
+pub get_column-requires : goal.get_column-requires
+get_column-requires c =
+    let many : ℕ = length c.args.arcs.now / 12 in
+    let small : Sized c.args.n ((length c.args.arcs.now + 11) / 12) many many = sized _ _ _ _ _ _ c.requires in
+    let room : (many ≤ 4096) × (12 * many ≤ length c.args.arcs.now) = (small.few_arcs, omega arith) in
+    record {
+      step_bound = (search rules, room.0, search rules);
+      count_in_bounds = (room.1, search (rules, room.0));
+    }
+
+pub get_column-requires-2 : goal.get_column-requires-2
+get_column-requires-2 c =
+    let many : ℕ = length c.args.arcs.now / 12 in
+    let small : Sized c.args.n ((length c.args.arcs.now + 11) / 12) many many = sized _ _ _ _ _ _ c.requires in
+    let room : (many ≤ 4096) × (12 * many ≤ length c.args.arcs.now) = (small.few_arcs, omega arith) in
+    record {
+      step_bound = (search rules, room.0, search rules);
+      count_in_bounds = (room.1, search (rules, room.0));
+    }
+
+pub get_column-requires-3 : goal.get_column-requires-3
+get_column-requires-3 c =
+    let many : ℕ = length c.args.arcs.now / 12 in
+    let small : Sized c.args.n ((length c.args.arcs.now + 11) / 12) many many = sized _ _ _ _ _ _ c.requires in
+    let room : (many ≤ 4096) × (12 * many ≤ length c.args.arcs.now) = (small.few_arcs, omega arith) in
+    record {
+      step_bound = (search rules, room.0, search rules);
+      count_in_bounds = (room.1, search (rules, room.0));
+    }
+
+pub serve_first-requires : goal.serve_first-requires
+serve_first-requires c =
+    let many : ℕ = length c.args.arcs.now / 12 in
+    let small : Sized c.args.n ((length c.args.arcs.now + 11) / 12) many many = sized _ _ _ _ _ _ c.requires in
+    let room : (many ≤ 4096) × (12 * many ≤ length c.args.arcs.now) = (small.few_arcs, omega arith) in
+    (search (rules, room.0), search (rules, room.0), search (rules, room.0))
+
+pub returns : goal.returns
+returns c =
+    let many : ℕ = length c.args.arcs.now / 12 in
+    let small : Sized c.args.n ((length c.args.arcs.now + 11) / 12) many many = sized _ _ _ _ _ _ c.requires in
+    let given = c.args in
+    c.serve_first.ensures
+    ∙ ap (λ (t : Table). serving t given.stamp given.flow.now given.side.now given.result.now)
+    (columns_table given.n given.s given.t many given.arcs.now refl small.tails_same (column_front _ many _ _ c.get_column.ensures) (column_front _ many _ _ c.get_column-2.ensures) (column_front _ many _ _ c.get_column-3.ensures))

@@ -1,0 +1,20 @@
+-- `serve_rows` meets its contract: the verdict, then its refusal or the accepted table.
+use mathlib.Core.Path.{◌≡◌, sym, ap, ◌∙◌}
+use Rattle.table.specs.Table.{Table, table_of}
+use Rattle.table.specs.Checks.{check_of}
+use Rattle.wire.specs.Solve.{serving_verdict}
+use Rattle.wire.proofs.Serving.{serves_refusal}
+use Rattle.booking.proofs.serve_rows.Goals as goal
+
+pub serve_accepted-requires : goal.serve_accepted-requires
+serve_accepted-requires c =
+    let table : Table = table_of c.args.n c.args.s c.args.t c.args.tails.now c.args.heads.now c.args.capacities.now in
+    let found : c.check.result ≡ serving_verdict table c.args.flow.now c.args.side.now c.args.res.now = c.check.ensures ∙ ap (check_of table) c.has_byte_room-room.ensures in
+    sym found ∙ c.in-Fine.is
+
+pub returns-in-Refused : goal.returns-in-Refused
+returns-in-Refused c =
+    let table : Table = table_of c.args.n c.args.s c.args.t c.args.tails.now c.args.heads.now c.args.capacities.now in
+    let found : c.check.result ≡ serving_verdict table c.args.flow.now c.args.side.now c.args.res.now = c.check.ensures ∙ ap (check_of table) c.has_byte_room-room.ensures in
+    let given = c.args in
+    serves_refusal table given.stamp given.flow.now given.side.now given.result.now _ _ (sym found ∙ c.in-Refused.is) c.refused.ensures

@@ -1,0 +1,13 @@
+-- `write_reading` meets its contract: the three numbers are written one after the other.
+use Prim.Native.Nat.{ℕ}
+use mathlib.Core.Path.{ap, ◌∙◌}
+use mathlib.Core.List.{List, ◌++◌}
+use lib.ListN.{drop}
+use Rattle.little.specs.Little.{bytes_of_all}
+use Rattle.wire.proofs.Telling.{three_are}
+use Rattle.booking.proofs.write_reading.Goals as goal
+
+pub returns : goal.returns
+returns c =
+                    c.put_all64.ensures
+    ∙ ap (λ (l : List ℕ). bytes_of_all 8 l ++ drop 24 c.args.res.now) (three_are c.args.r _ _ _ c.wide.ensures.0 c.wide-2.ensures.0 c.wide-3.ensures.0)

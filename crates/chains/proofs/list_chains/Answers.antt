@@ -1,0 +1,43 @@
+-- `list_chains` meets its contract: the checks in their order, then the accepted table and the list's ROOM. What it shows follows from the equation.
+use Rattle.chains.proofs.Showing.{refused_listing, fine_listing, fine_accepted, fine_roomy, listing_shows}
+use Rattle.chains.specs.Listing.{Shown, listing, Shows}
+use Rattle.verdicts.specs.Plain.{plain_verdict}
+use Rattle.minimums.specs.BoundedTable.{BoundedTable, bounded_of}
+use Rattle.minimums.specs.Checks.{plain_check}
+use lib.ListN.{length}
+use mathlib.Core.Path.{◌≡◌, ap, ◌∙◌}
+use Rattle.chains.proofs.list_chains.Goals as goal
+
+pub list_table-requires : goal.list_table-requires
+list_table-requires c =
+    let bounded : BoundedTable = bounded_of c.args.n c.args.s c.args.t c.args.tails.now c.args.heads.now c.args.capacities.now c.args.minimums.now in
+    let found : c.plain_check.result ≡ plain_verdict bounded (length c.args.flow.now) (length c.args.side.now) (length c.args.work.now) = c.plain_check.ensures ∙ ap (plain_check bounded) c.has_room-room.ensures in
+    let given = c.args in
+    let room = fine_roomy bounded given.stamp given.flow.now given.side.now given.work.now given.list.now _ found c.in-Fine.is in record {
+      accepted = fine_accepted bounded given.stamp given.flow.now given.side.now given.work.now given.list.now _ found c.in-Fine.is;
+      given_room = (room.for_flow, room.for_side, room.for_work);
+    }
+
+pub returns-in-Refused : goal.returns-in-Refused
+returns-in-Refused c =
+    let bounded : BoundedTable = bounded_of c.args.n c.args.s c.args.t c.args.tails.now c.args.heads.now c.args.capacities.now c.args.minimums.now in
+    let found : c.plain_check.result ≡ plain_verdict bounded (length c.args.flow.now) (length c.args.side.now) (length c.args.work.now) = c.plain_check.ensures ∙ ap (plain_check bounded) c.has_room-room.ensures in
+    let whole : (l : Shown) → l ≡ listing bounded c.args.stamp c.args.flow.now c.args.side.now c.args.work.now c.args.list.now → (l ≡ listing bounded c.args.stamp c.args.flow.now c.args.side.now c.args.work.now c.args.list.now) × (l.solving.answer.refusal ≡ 0 → Shows bounded.table l) = λ l e. (e, listing_shows bounded c.args.stamp c.args.flow.now c.args.side.now c.args.work.now c.args.list.now l e) in
+    let given = c.args in
+    let the_facts = whole _
+    (refused_listing bounded given.stamp given.flow.now given.side.now given.work.now given.list.now _ found _ _ c.in-Refused.is c.refused.result c.refused.ensures) in record {
+      exact = the_facts.0;
+      shows = the_facts.1;
+    }
+
+pub returns-in-Fine : goal.returns-in-Fine
+returns-in-Fine c =
+    let bounded : BoundedTable = bounded_of c.args.n c.args.s c.args.t c.args.tails.now c.args.heads.now c.args.capacities.now c.args.minimums.now in
+    let found : c.plain_check.result ≡ plain_verdict bounded (length c.args.flow.now) (length c.args.side.now) (length c.args.work.now) = c.plain_check.ensures ∙ ap (plain_check bounded) c.has_room-room.ensures in
+    let whole : (l : Shown) → l ≡ listing bounded c.args.stamp c.args.flow.now c.args.side.now c.args.work.now c.args.list.now → (l ≡ listing bounded c.args.stamp c.args.flow.now c.args.side.now c.args.work.now c.args.list.now) × (l.solving.answer.refusal ≡ 0 → Shows bounded.table l) = λ l e. (e, listing_shows bounded c.args.stamp c.args.flow.now c.args.side.now c.args.work.now c.args.list.now l e) in
+    let given = c.args in
+    let the_facts = whole _
+    (fine_listing bounded given.stamp given.flow.now given.side.now given.work.now given.list.now _ found c.in-Fine.is _ c.list_table.ensures) in record {
+      exact = the_facts.0;
+      shows = the_facts.1;
+    }

@@ -1,0 +1,27 @@
+-- `month_verdict` meets its contract: at each return the tests that led there say which case holds.
+use borrow.Author.Tests.{lt-ltb, le-ltb}
+use Rattle.days.specs.Month.{verdict_of}
+use Rattle.month.proofs.month_verdict.Goals as goal
+
+pub returns-then-starts-gt31 : goal.returns-then-starts-gt31
+unfolding verdict_of
+returns-then-starts-gt31 c = simp (lt-ltb _ _ c.if-starts-gt31.true)
+
+pub returns-then-do_rows_differ : goal.returns-then-do_rows_differ
+unfolding verdict_of
+returns-then-do_rows_differ c = simp (le-ltb _ _ c.if-starts-gt31.false, ← c.do_rows_differ.ensures, c.if-do_rows_differ.true)
+
+pub returns-then-do_fall : goal.returns-then-do_fall
+unfolding verdict_of
+returns-then-do_fall c =
+        simp (le-ltb _ _ c.if-starts-gt31.false, ← c.do_rows_differ.ensures, c.if-do_rows_differ.false, ← c.do_fall.ensures, c.if-do_fall.true)
+
+pub returns-then-not-has_month_room : goal.returns-then-not-has_month_room
+unfolding verdict_of
+returns-then-not-has_month_room c =
+            simp (le-ltb _ _ c.if-starts-gt31.false, ← c.do_rows_differ.ensures, c.if-do_rows_differ.false, ← c.do_fall.ensures, c.if-do_fall.false, ← c.has_month_room.ensures, c.if-not-has_month_room.true)
+
+pub returns : goal.returns
+unfolding verdict_of
+returns c =
+            simp (le-ltb _ _ c.if-starts-gt31.false, ← c.do_rows_differ.ensures, c.if-do_rows_differ.false, ← c.do_fall.ensures, c.if-do_fall.false, ← c.has_month_room.ensures, c.if-not-has_month_room.false)

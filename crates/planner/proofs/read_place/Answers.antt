@@ -1,0 +1,25 @@
+-- `read_place` meets its contract: the first refusal, or what stands at the place.
+use Rattle.minimums.specs.BoundedTable.{BoundedTable, bounded_of}
+use Rattle.planner.proofs.Readings.{refused_reading, fine_reading, fine_readable}
+use Rattle.planner.proofs.read_place.Goals as goal
+
+pub read_at-requires : goal.read_at-requires
+read_at-requires c =
+    let table : BoundedTable = bounded_of c.args.n c.args.s c.args.t c.args.tails.now c.args.heads.now c.args.capacities.now c.args.minimums.now in
+    let given = c.args in
+    let may = fine_readable table given.stamp given.answer given.flow.now given.side.now given.place _ c.reading_verdict.ensures c.in-Fine.is in record {
+      accepted = may.accepted;
+      capacities_in_bounds = (may.flows, may.marks, may.inside);
+    }
+
+pub returns-in-Refused : goal.returns-in-Refused
+returns-in-Refused c =
+    let table : BoundedTable = bounded_of c.args.n c.args.s c.args.t c.args.tails.now c.args.heads.now c.args.capacities.now c.args.minimums.now in
+    let given = c.args in
+    refused_reading table given.stamp given.answer given.flow.now given.side.now given.place _ c.reading_verdict.ensures _ _ c.in-Refused.is c.unread.result c.unread.ensures
+
+pub returns-in-Fine : goal.returns-in-Fine
+returns-in-Fine c =
+    let table : BoundedTable = bounded_of c.args.n c.args.s c.args.t c.args.tails.now c.args.heads.now c.args.capacities.now c.args.minimums.now in
+    let given = c.args in
+    fine_reading table given.stamp given.answer given.flow.now given.side.now given.place _ c.reading_verdict.ensures c.in-Fine.is c.read_at.result c.read_at.ensures

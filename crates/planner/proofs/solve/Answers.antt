@@ -1,0 +1,40 @@
+-- `solve` meets its contract: the verdict of four rows, then its refusal or the accepted table.
+use mathlib.Core.Path.{◌≡◌, ap, ◌∙◌}
+use lib.ListN.{length}
+use Rattle.minimums.specs.BoundedTable.{BoundedTable, bounded_of}
+use Rattle.minimums.specs.Checks.{bounded_check}
+use Rattle.planner.specs.Solving.{SignedLeft, bounded_verdict, Solves, SolvesWell}
+use Rattle.planner.proofs.Answers.{solves_refused, solves_fine, fine_solvable}
+use Rattle.planner.proofs.Demands.{solves_well}
+use Rattle.planner.proofs.solve.Goals as goal
+
+pub solve_accepted-requires : goal.solve_accepted-requires
+solve_accepted-requires c =
+    let table : BoundedTable = bounded_of c.args.n c.args.s c.args.t c.args.tails.now c.args.heads.now c.args.capacities.now c.args.minimums.now in
+    let found : c.check.result ≡ bounded_verdict table (length c.args.flow.now) (length c.args.side.now) (length c.args.work.now) = c.check.ensures ∙ ap (bounded_check table) c.has_room-room.ensures in
+    let the_facts = fine_solvable table c.args.stamp c.args.flow.now c.args.side.now c.args.work.now found c.in-Fine.is in record {
+      solvable = the_facts.0;
+      capacities_in_bounds = the_facts.1;
+    }
+
+pub returns-in-Refused : goal.returns-in-Refused
+returns-in-Refused c =
+    let table : BoundedTable = bounded_of c.args.n c.args.s c.args.t c.args.tails.now c.args.heads.now c.args.capacities.now c.args.minimums.now in
+    let found : c.check.result ≡ bounded_verdict table (length c.args.flow.now) (length c.args.side.now) (length c.args.work.now) = c.check.ensures ∙ ap (bounded_check table) c.has_room-room.ensures in
+    let whole : (l : SignedLeft) → Solves table c.args.stamp c.args.flow.now c.args.side.now c.args.work.now l → Solves table c.args.stamp c.args.flow.now c.args.side.now c.args.work.now l × (l.answer.refusal ≡ 0 → SolvesWell table l) = λ l so. (so, solves_well table c.args.stamp c.args.flow.now c.args.side.now c.args.work.now l so) in
+    let the_facts = whole _
+    (solves_refused table c.args.stamp c.args.flow.now c.args.side.now c.args.work.now found c.in-Refused.is c.refused.ensures) in record {
+      exact = the_facts.0;
+      best = the_facts.1;
+    }
+
+pub returns-in-Fine : goal.returns-in-Fine
+returns-in-Fine c =
+    let table : BoundedTable = bounded_of c.args.n c.args.s c.args.t c.args.tails.now c.args.heads.now c.args.capacities.now c.args.minimums.now in
+    let found : c.check.result ≡ bounded_verdict table (length c.args.flow.now) (length c.args.side.now) (length c.args.work.now) = c.check.ensures ∙ ap (bounded_check table) c.has_room-room.ensures in
+    let whole : (l : SignedLeft) → Solves table c.args.stamp c.args.flow.now c.args.side.now c.args.work.now l → Solves table c.args.stamp c.args.flow.now c.args.side.now c.args.work.now l × (l.answer.refusal ≡ 0 → SolvesWell table l) = λ l so. (so, solves_well table c.args.stamp c.args.flow.now c.args.side.now c.args.work.now l so) in
+    let the_facts = whole _
+    (solves_fine table c.args.stamp c.args.flow.now c.args.side.now c.args.work.now found c.in-Fine.is _ c.solve_accepted.ensures) in record {
+      exact = the_facts.0;
+      best = the_facts.1;
+    }

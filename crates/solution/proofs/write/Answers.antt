@@ -1,0 +1,28 @@
+-- `write` meets its contract: a refusal writes nothing; else two texts stand one behind the other.
+use Prim.Native.Nat.{ℕ}
+use mathlib.Core.Path.{ap}
+use Rattle.pen.proofs.Writing.{wrote_within}
+use Rattle.minimums.specs.BoundedTable.{BoundedTable, bounded_of}
+use Rattle.solution.specs.Writing.{written_with}
+use Rattle.solution.proofs.Writing.{accepted_arcs, writes_fine, writing_refused, writing_fine}
+use Rattle.solution.proofs.write.Goals as goal
+
+pub put_flows-end-requires : goal.put_flows-end-requires
+put_flows-end-requires c =
+    let table : BoundedTable = let a = c.args in bounded_of a.n a.s a.t a.tails.now a.heads.now a.capacities.now a.minimums.now in
+    let a = c.args in
+    let w = writes_fine table a.value a.flow.now _ _ c.writing_verdict.ensures c.in-Fine.is in
+    (wrote_within c.put_line-lines.ensures, (accepted_arcs table.table w.accepted a.flow.now w.room).0)
+
+pub returns-in-Refused : goal.returns-in-Refused
+returns-in-Refused c =
+    let table : BoundedTable = let a = c.args in bounded_of a.n a.s a.t a.tails.now a.heads.now a.capacities.now a.minimums.now in
+    let a = c.args in
+    let told = c.name-1.given in
+    writing_refused table a.value a.flow.now a.text.now _ c.writing_verdict.ensures _ _ _ told.1 (ap (λ (x : ℕ). written_with x told.0.1.0 0) c.number.ensures)
+
+pub returns-in-Fine : goal.returns-in-Fine
+returns-in-Fine c =
+    let table : BoundedTable = let a = c.args in bounded_of a.n a.s a.t a.tails.now a.heads.now a.capacities.now a.minimums.now in
+    let a = c.args in
+    writing_fine table a.value a.flow.now a.text.now _ c.writing_verdict.ensures _ _ _ _ c.in-Fine.is c.put_line-lines.ensures c.put_flows-end.ensures

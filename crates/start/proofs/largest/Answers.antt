@@ -1,0 +1,18 @@
+-- `largest` meets its contract. The invariant: the greater of `most` and the largest of what is left is the largest of the row.
+use Rattle.start.proofs.Scaling.{largest_on, largest_end}
+use Prim.Native.Nat.{◌-◌}
+use mathlib.Core.Logic.{⊎_elim}
+use native.Mathlib.Omega.{arith}
+use borrow.Author.Rules.{rules}
+use Rattle.start.proofs.largest.Goals as goal
+
+pub loop-i-init : goal.loop-i-init
+loop-i-init c = (search rules, omega arith)
+
+pub loop-i-preserved : goal.loop-i-preserved
+loop-i-preserved c =
+        let here = largest_on c.args.row.now c.loop-i.i c.loop-i-test.true in
+    (omega arith, ⊎_elim (λ w. omega arith) (λ w. omega arith) c.if-most-x.branch)
+
+pub returns : goal.returns
+returns c = omega (arith, largest_end c.args.row.now c.loop-i.i c.loop-i-test.false)

@@ -1,0 +1,15 @@
+-- `source_step` meets its contract: each way through the tests is one case of `source_step`.
+use Rattle.text.specs.Lines.{source_step}
+use Rattle.text.proofs.source_step.Goals as goal
+
+pub returns-then-not-p : goal.returns-then-not-p
+unfolding source_step
+returns-then-not-p c = simp c.if-not-p.true
+
+pub returns-then-p : goal.returns-then-p
+unfolding source_step
+returns-then-p c = simp (c.if-not-p.false, c.if-p.true)
+
+pub returns : goal.returns
+unfolding source_step
+returns c = simp (c.if-not-p.false, c.if-p.false)

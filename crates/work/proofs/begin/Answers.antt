@@ -1,0 +1,48 @@
+-- `begin` meets its contract: the flow row, then the excess part, then the labels part.
+use Prim.Native.Nat.{ℕ, ◌-◌, ◌≤◌}
+use borrow.Rule.Slice.PartMut.{put_mid}
+use Rattle.table.specs.Table.{table_of}
+use Rattle.table.specs.Accepted.{ArcRows}
+use Rattle.run.specs.Start.{start_label_at}
+use Rattle.run.specs.Start.{start as begun}
+use Rattle.rows.specs.Row.{by_node}
+use Rattle.arcs.specs.Work.{starts_at, labels_part}
+use Rattle.arcs.proofs.Work.{length_excess, length_labels, excess_length, both_excess, both_labels, both_lists}
+use Rattle.work.proofs.Stepping.{same_state, start_is}
+use lib.ListN.{length}
+use native.Mathlib.Omega.{arith}
+use mathlib.Core.Path.{◌≡◌, refl, ap, ◌∙◌, subst⁻¹}
+use Rattle.work.proofs.begin.Goals as goal
+
+pub start_excess-requires : goal.start_excess-requires
+start_excess-requires c =
+        let given = c.args in
+    subst⁻¹ (λ (m : ℕ). ArcRows m given.tails.now given.heads.now given.capacities.now) (length_excess given.n given.work.now c.requires.n_in_bounds.0) c.requires.arc_rows
+
+pub start_labels-requires : goal.start_labels-requires
+start_labels-requires c =
+    let excess_size : length c.start_excess.auto.excess ≡ c.args.n = c.start_excess.auto.excess ∙ length_excess c.args.n c.args.work.now c.requires.n_in_bounds.0 in
+    let roomy : starts_at c.args.n ≤ length (put_mid 0 (c.args.n - 0) c.args.work.now c.start_excess.auto.excess) = omega (arith, excess_length c.args.n c.args.work.now c.start_excess.auto.excess c.requires.n_in_bounds.0 excess_size, c.requires.n_in_bounds.0) in
+    let long_labels : length (labels_part c.args.n (put_mid 0 (c.args.n - 0) c.args.work.now c.start_excess.auto.excess)) ≡ c.args.n = length_labels c.args.n (put_mid 0 (c.args.n - 0) c.args.work.now c.start_excess.auto.excess) roomy in
+    omega (arith, long_labels, c.requires.arc_rows.ends.few_nodes)
+
+pub returns : goal.returns
+returns c =
+    let excess_size : length c.start_excess.auto.excess ≡ c.args.n = c.start_excess.auto.excess ∙ length_excess c.args.n c.args.work.now c.requires.n_in_bounds.0 in
+    let roomy : starts_at c.args.n ≤ length (put_mid 0 (c.args.n - 0) c.args.work.now c.start_excess.auto.excess) = omega (arith, excess_length c.args.n c.args.work.now c.start_excess.auto.excess c.requires.n_in_bounds.0 excess_size, c.requires.n_in_bounds.0) in
+    let long_labels : length (labels_part c.args.n (put_mid 0 (c.args.n - 0) c.args.work.now c.start_excess.auto.excess)) ≡ c.args.n = length_labels c.args.n (put_mid 0 (c.args.n - 0) c.args.work.now c.start_excess.auto.excess) roomy in
+    let given = c.args in
+    let T = table_of given.n given.s given.t given.tails.now given.heads.now given.capacities.now in
+        let long = long_labels in
+    let labels_size = c.start_labels.auto.labels ∙ long in
+    let excess = c.start_excess.auto.excess in
+    let labels = c.start_labels.auto.labels in record {
+      work_value = same_state refl (both_excess given.n given.work.now excess labels c.requires.n_in_bounds.0 excess_size labels_size)
+          (both_labels given.n given.work.now excess labels c.requires.n_in_bounds.0 excess_size labels_size)
+          ∙ start_is T given.flow.now c.start_flow.auto.flow excess labels c.requires.n_in_bounds.1
+          (c.start_flow.ensures given.n given.t given.heads.now)
+          (c.start_excess.ensures ∙ ap (λ (m : ℕ). (begun (table_of m given.s given.t given.tails.now given.heads.now given.capacities.now)).excess) (length_excess given.n given.work.now c.requires.n_in_bounds.0))
+          (c.start_labels.ensures given.tails.now given.heads.now given.capacities.now
+          ∙ ap (λ (m : ℕ). by_node (start_label_at (table_of m given.s given.t given.tails.now given.heads.now given.capacities.now)) m) long);
+      work_value_2 = both_lists given.n given.work.now excess labels c.requires.n_in_bounds.0 excess_size labels_size;
+    }
