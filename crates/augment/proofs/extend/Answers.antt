@@ -25,12 +25,12 @@ overflow_cast-count-2 c = omega (arith, c.type_inv.dist (c.args.s - 1))
 
 pub slice_bounds-fill-end : goal.slice_bounds-fill-end
 slice_bounds-fill-end c =
-    let room : c.args.n ≤ length c.find-least.auto.chain = omega (arith, c.find-least.auto.chain, c.requires.lowest_len.2) in
+    let room : c.args.n ≤ length c.find-least.new.chain = omega (arith, c.find-least.auto.chain, c.requires.lowest_len.2) in
     label_fits c.requires.ready c.find-least.ensures room
 
 pub slice_bounds-fill-end-2 : goal.slice_bounds-fill-end-2
 slice_bounds-fill-end-2 c =
-    let room : c.args.n ≤ length c.find-least.auto.chain = omega (arith, c.find-least.auto.chain, c.requires.lowest_len.2) in
+    let room : c.args.n ≤ length c.find-least.new.chain = omega (arith, c.find-least.auto.chain, c.requires.lowest_len.2) in
     sym (length-take-le _ _ (label_fits c.requires.ready c.find-least.ensures room))
 
 pub fill-requires : goal.fill-requires
@@ -45,7 +45,7 @@ fill-requires c =
 
 pub returns : goal.returns
 returns c =
-    let room : c.args.n ≤ length c.find-least.auto.chain = omega (arith, c.find-least.auto.chain, c.requires.lowest_len.2) in
+    let room : c.args.n ≤ length c.find-least.new.chain = omega (arith, c.find-least.auto.chain, c.requires.lowest_len.2) in
     let some : 0 < c.find-least.result = let ne = c.if-least-eq0.false in omega arith in
     let l = some in
     let filled =

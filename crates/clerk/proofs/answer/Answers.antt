@@ -8,10 +8,10 @@ use Rattle.clerk.proofs.answer.Goals as goal
 
 pub slice_bounds-text-end : goal.slice_bounds-text-end
 slice_bounds-text-end c =
-    let within : c.in-Whole.length ≤ length c.read_whole.auto.row = subst (TakenWithin (length c.read_whole.auto.row)) c.in-Whole.is c.read_whole.ensures in
+    let within : c.in-Whole.length ≤ length c.read_whole.new.row = subst (TakenWithin (length c.read_whole.new.row)) c.in-Whole.is c.read_whole.ensures in
     within
 
 pub slice_bounds-print_answer-end : goal.slice_bounds-print_answer-end
 slice_bounds-print_answer-end c =
-    let within : c.in-Whole.length ≤ length c.read_whole.auto.row = subst (TakenWithin (length c.read_whole.auto.row)) c.in-Whole.is c.read_whole.ensures in
+    let within : c.in-Whole.length ≤ length c.read_whole.new.row = subst (TakenWithin (length c.read_whole.new.row)) c.in-Whole.is c.read_whole.ensures in
     sym (length-take-le _ _ within)

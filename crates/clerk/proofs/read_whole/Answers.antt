@@ -9,10 +9,10 @@ use Rattle.clerk.proofs.read_whole.Goals as goal
 
 pub loop-filled-smaller : goal.loop-filled-smaller
 loop-filled-smaller c =
-    let further : TurnWithin c.loop-filled.filled (length c.read_on-turn.auto.row) (Filled c.in-Filled.next) = subst (TurnWithin c.loop-filled.filled (length c.read_on-turn.auto.row)) c.in-Filled.is c.read_on-turn.ensures in
+    let further : TurnWithin c.loop-filled.filled (length c.read_on-turn.new.row) (Filled c.in-Filled.next) = subst (TurnWithin c.loop-filled.filled (length c.read_on-turn.new.row)) c.in-Filled.is c.read_on-turn.ensures in
     omega (arith, further)
 
 pub loop-filled-preserved : goal.loop-filled-preserved
 loop-filled-preserved c =
-    let further : TurnWithin c.loop-filled.filled (length c.read_on-turn.auto.row) (Filled c.in-Filled.next) = subst (TurnWithin c.loop-filled.filled (length c.read_on-turn.auto.row)) c.in-Filled.is c.read_on-turn.ensures in
+    let further : TurnWithin c.loop-filled.filled (length c.read_on-turn.new.row) (Filled c.in-Filled.next) = subst (TurnWithin c.loop-filled.filled (length c.read_on-turn.new.row)) c.in-Filled.is c.read_on-turn.ensures in
     omega (arith, further)

@@ -10,5 +10,5 @@ use Rattle.codec.proofs.put32.Goals as goal
 pub returns : goal.returns
 returns c =
     let at = c.args.at in
-    put_placed at (at + 4) c.args.row.now c.put_four.auto.row (omega arith)
+    put_placed at (at + 4) c.args.row.now c.put_four.new.row (omega arith)
     ∙ ap (λ (l : List ℕ). placed at (at + 4) l c.args.row.now) c.put_four.ensures

@@ -18,7 +18,7 @@ pub fill_arcs-requires : goal.fill_arcs-requires
 fill_arcs-requires c =
     let arc_test : ℕ → Bool = let args = c.args in arc_by args.ahead.now args.behind.now args.tails.now args.heads.now args.capacities.now in
     let numbers : List ℕ = c.number_nodes.new.numbers in
-    let origins : List ℕ = c.list_arcs-arcs.auto.list in
+    let origins : List ℕ = c.list_arcs-arcs.new.list in
     let numbers_long : length numbers ≡ length c.args.ahead.now = c.number_nodes.auto.numbers ∙ c.requires.arc_ends.2 in
     let few : c.list_arcs-arcs.result ≤ length c.args.tails.now = omega (arith, c.list_arcs-arcs.ensures.0, passing_few arc_test (length c.args.tails.now)) in
     let front : take c.list_arcs-arcs.result origins ≡ passing arc_test (length c.args.tails.now) = filled_front (passing arc_test (length c.args.tails.now)) c.args.arcs_from.now origins c.list_arcs-arcs.result c.list_arcs-arcs.ensures.0 c.list_arcs-arcs.ensures.1 in
@@ -49,7 +49,7 @@ returns c =
     let node_test : ℕ → Bool = let args = c.args in node_by args.ahead.now args.behind.now args.s args.t in
     let arc_test : ℕ → Bool = let args = c.args in arc_by args.ahead.now args.behind.now args.tails.now args.heads.now args.capacities.now in
     let numbers : List ℕ = c.number_nodes.new.numbers in
-    let origins : List ℕ = c.list_arcs-arcs.auto.list in
+    let origins : List ℕ = c.list_arcs-arcs.new.list in
     let front : take c.list_arcs-arcs.result origins ≡ passing arc_test (length c.args.tails.now) = filled_front (passing arc_test (length c.args.tails.now)) c.args.arcs_from.now origins c.list_arcs-arcs.result c.list_arcs-arcs.ensures.0 c.list_arcs-arcs.ensures.1 in
     let args = c.args in
     let n = length args.ahead.now in

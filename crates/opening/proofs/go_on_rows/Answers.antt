@@ -21,7 +21,7 @@ pub value-value-requires : goal.value-value-requires
 value-value-requires c =
     let table : Table = table_of c.args.n c.args.s c.args.t c.args.tails.now c.args.heads.now c.args.capacities.now in
     let accepted : Accepted table = c.requires.accepted in
-    let flow : List ℕ = c.go_on.auto.flow in
+    let flow : List ℕ = c.go_on.new.flow in
     let is_last : flow ≡ settled (network_of table) c.args.flow.now = gone_row table accepted c.args.minimums.now c.args.flow.now c.requires.minimums_value c.go_on.ensures in
     let sums : (length flow ≡ arcs table) × (sum_at c.args.heads.now flow c.args.s (length c.args.heads.now) ≤ sum_at c.args.tails.now flow c.args.s (length c.args.tails.now)) = last_sums table accepted c.args.flow.now c.requires.flow_len.0 c.requires.flow is_last in
     let rows = accepted.rows in record {
@@ -33,7 +33,7 @@ pub mark-requires : goal.mark-requires
 mark-requires c =
     let table : Table = table_of c.args.n c.args.s c.args.t c.args.tails.now c.args.heads.now c.args.capacities.now in
     let accepted : Accepted table = c.requires.accepted in
-    let flow : List ℕ = c.go_on.auto.flow in
+    let flow : List ℕ = c.go_on.new.flow in
     let is_last : flow ≡ settled (network_of table) c.args.flow.now = gone_row table accepted c.args.minimums.now c.args.flow.now c.requires.minimums_value c.go_on.ensures in
     let sums : (length flow ≡ arcs table) × (sum_at c.args.heads.now flow c.args.s (length c.args.heads.now) ≤ sum_at c.args.tails.now flow c.args.s (length c.args.tails.now)) = last_sums table accepted c.args.flow.now c.requires.flow_len.0 c.requires.flow is_last in
     record {
@@ -55,10 +55,10 @@ pub returns : goal.returns
 returns c =
     let table : Table = table_of c.args.n c.args.s c.args.t c.args.tails.now c.args.heads.now c.args.capacities.now in
     let accepted : Accepted table = c.requires.accepted in
-    let flow : List ℕ = c.go_on.auto.flow in
+    let flow : List ℕ = c.go_on.new.flow in
     let is_last : flow ≡ settled (network_of table) c.args.flow.now = gone_row table accepted c.args.minimums.now c.args.flow.now c.requires.minimums_value c.go_on.ensures in
     went_rows table c.args.stamp c.args.flow.now c.args.side.now c.args.work.now c.value-value.result c.work_need.result c.answer_of.result
-    flow c.mark.auto.side c.clear.auto.row
+    flow c.mark.new.side c.clear.new.row
     c.requires.flow_len.0 is_last
     (c.value-value.ensures c.args.n c.args.t c.args.capacities.now accepted.rows.capacities_long)
     (c.mark.ensures c.args.t)

@@ -19,7 +19,7 @@ fill_work-requires c =
 pub solve_filled-answer-requires : goal.solve_filled-answer-requires
 solve_filled-answer-requires c =
     let table : Table = table_of c.args.n c.args.s c.args.t c.args.tails.now c.args.heads.now c.args.capacities.now in
-    let filled : List ℕ = c.fill_work.auto.work in
+    let filled : List ℕ = c.fill_work.new.work in
     let in_work : InWork table filled = c.fill_work.ensures.listed c.args.s c.args.t c.args.capacities.now c.requires.accepted.rows.capacities_long in
     record {
       fact = (c.requires.accepted, in_work);
@@ -29,9 +29,9 @@ solve_filled-answer-requires c =
 pub mark-requires : goal.mark-requires
 mark-requires c =
     let table : Table = table_of c.args.n c.args.s c.args.t c.args.tails.now c.args.heads.now c.args.capacities.now in
-    let filled : List ℕ = c.fill_work.auto.work in
+    let filled : List ℕ = c.fill_work.new.work in
     let in_work : InWork table filled = c.fill_work.ensures.listed c.args.s c.args.t c.args.capacities.now c.requires.accepted.rows.capacities_long in
-    let worked : List ℕ = c.solve_filled-answer.auto.work in
+    let worked : List ℕ = c.solve_filled-answer.new.work in
     let still : InWork table worked = in_work_kept table filled worked c.solve_filled-answer.ensures.lists_stay (sym c.solve_filled-answer.auto.work) in_work in
     let long = c.solve_filled-answer.auto.flow ∙ c.requires.flow_len.0 in record {
       arc_rows = (rows_turned c.requires.accepted.rows, omega (arith, long), c.requires.accepted.sink);

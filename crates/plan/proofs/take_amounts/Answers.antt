@@ -58,11 +58,11 @@ loop-at-preserved c =
         nodes_into = c.take_kind-fits.auto.into ∙ c.loop-at.invariant.0.nodes_into;
       },
       omega (arith, within),
-      most_on a.n c.loop-at.out c.take_kind-fits.auto.out (out_sum more) c.loop-at.at (c.find-end.result + 1) c.loop-at.invariant.2 c.take_kind-fits.ensures.outs (omega (arith, c.find-end.ensures)),
-      most_on a.n c.loop-at.into c.take_kind-fits.auto.into (into_sum more) c.loop-at.at (c.find-end.result + 1) c.loop-at.invariant.3 c.take_kind-fits.ensures.intos (omega (arith, c.find-end.ensures)),
-      balance_on a.n (λ i x. eqb x.tail i) c.loop-at.out c.take_kind-fits.auto.out all rest more further c.loop-at.invariant.4 here c.take_kind-fits.ensures.outs,
-      balance_on a.n (λ i x. eqb x.head i) c.loop-at.into c.take_kind-fits.auto.into all rest more further c.loop-at.invariant.5 here c.take_kind-fits.ensures.intos,
-      λ place p. pairs_on place a.room.now c.loop-at.room c.take_kind-fits.auto.room all rest more further c.loop-at.fits c.take_kind-fits.result (c.loop-at.invariant.6 place p) here (c.take_kind-fits.ensures.pairs place p),
+      most_on a.n c.loop-at.out c.take_kind-fits.new.out (out_sum more) c.loop-at.at (c.find-end.result + 1) c.loop-at.invariant.2 c.take_kind-fits.ensures.outs (omega (arith, c.find-end.ensures)),
+      most_on a.n c.loop-at.into c.take_kind-fits.new.into (into_sum more) c.loop-at.at (c.find-end.result + 1) c.loop-at.invariant.3 c.take_kind-fits.ensures.intos (omega (arith, c.find-end.ensures)),
+      balance_on a.n (λ i x. eqb x.tail i) c.loop-at.out c.take_kind-fits.new.out all rest more further c.loop-at.invariant.4 here c.take_kind-fits.ensures.outs,
+      balance_on a.n (λ i x. eqb x.head i) c.loop-at.into c.take_kind-fits.new.into all rest more further c.loop-at.invariant.5 here c.take_kind-fits.ensures.intos,
+      λ place p. pairs_on place a.room.now c.loop-at.room c.take_kind-fits.new.room all rest more further c.loop-at.fits c.take_kind-fits.result (c.loop-at.invariant.6 place p) here (c.take_kind-fits.ensures.pairs place p),
       c.take_kind-fits.auto.room ∙ c.loop-at.invariant.7,
     )
 

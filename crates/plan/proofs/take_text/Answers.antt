@@ -47,6 +47,6 @@ returns c =
     let a = c.args in record {
       outs = c.take_amounts.ensures.outs;
       intos = c.take_amounts.ensures.intos;
-      pairs = took_below places a.tails.now a.heads.now a.capacities.now c.fill_room.auto.room c.fill_room.ensures (amounts_of (lines a.text.now)) c.take_amounts.result
+      pairs = took_below places a.tails.now a.heads.now a.capacities.now c.fill_room.new.room c.fill_room.ensures (amounts_of (lines a.text.now)) c.take_amounts.result
             (c.take_amounts.ensures.pairs places c.index_arcs.ensures);
     }

@@ -13,9 +13,9 @@ loop-i-init c = (search rules, refl, refl)
 
 pub loop-i-preserved : goal.loop-i-preserved
 loop-i-preserved c =
-        (search rules, simp length-set c.loop-i.invariant.1, rw c.loop-i.invariant.2 (fill_more c.loop-i.i 0 c.args.side.now (search rules)))
+    (search rules, simp length-set c.loop-i.invariant.1, rw c.loop-i.invariant.2 (fill_more c.loop-i.i 0 c.args.side.now (search rules)))
 
 pub returns : goal.returns
 returns c =
-        let all : c.loop-i.i ≡ length c.args.side.now = search rules in
+    let all : c.loop-i.i ≡ length c.args.side.now = search rules in
     c.loop-i.invariant.2 ∙ rw (all, drop-length, append-nil)

@@ -22,4 +22,4 @@ mark_all-requires c =
 
 pub returns : goal.returns
 returns c =
-        rw (c.mark_all.ensures t)
+    rw (c.mark_all.ensures t)

@@ -46,12 +46,11 @@ pub bounds-todo-0 : goal.bounds-todo-0
 bounds-todo-0 c = omega (arith, c.requires.arc_rows.2, c.requires.side_len.1)
 
 pub loop-count-init : goal.loop-count-init
-loop-count-init c =
-    (
-      refl,
-      λ t. visit_start _ _ (rows_walkable c.requires.arc_rows.0 c.args.s t c.requires.arc_rows.2) _ c.args.todo.now
-          (c.only.ensures ∙ ap (λ l. mark c.args.s (replicate l 0)) c.requires.side_len.0) c.requires.side_len.1,
-    )
+loop-count-init c = (
+  refl,
+  λ t. visit_start _ _ (rows_walkable c.requires.arc_rows.0 c.args.s t c.requires.arc_rows.2) _ c.args.todo.now
+      (c.only.ensures ∙ ap (λ l. mark c.args.s (replicate l 0)) c.requires.side_len.0) c.requires.side_len.1,
+)
 
 pub offset_bounds-todo-count : goal.offset_bounds-todo-count
 offset_bounds-todo-count c =

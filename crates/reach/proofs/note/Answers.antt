@@ -11,13 +11,13 @@ returns-then-not-may c = note_shut _ _ _ c.if-not-may.true
 
 pub returns-then-side-p-eq1 : goal.returns-then-side-p-eq1
 returns-then-side-p-eq1 c =
-        note_again _ _ _ c.if-not-may.false (node_at _ _ c.requires.0.0 ∙ c.if-side-p-eq1.true)
+    note_again _ _ _ c.if-not-may.false (node_at _ _ c.requires.0.0 ∙ c.if-side-p-eq1.true)
 
 pub bounds-todo-count : goal.bounds-todo-count
 bounds-todo-count c =
-        let fewer = mark_new c.args.side.now c.args.j c.requires.0 (λ e. c.if-side-p-eq1.false (sym (node_at _ _ c.requires.0.0) ∙ e)) in
+    let fewer = mark_new c.args.side.now c.args.j c.requires.0 (λ e. c.if-side-p-eq1.false (sym (node_at _ _ c.requires.0.0) ∙ e)) in
     search rules
 
 pub returns : goal.returns
 returns c =
-        note_new _ _ _ c.if-not-may.false (λ e. c.if-side-p-eq1.false (sym (node_at _ _ c.requires.0.0) ∙ e))
+    note_new _ _ _ c.if-not-may.false (λ e. c.if-side-p-eq1.false (sym (node_at _ _ c.requires.0.0) ∙ e))

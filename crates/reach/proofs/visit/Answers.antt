@@ -14,14 +14,14 @@ loop-p-init c = (search rules, moved_none, λ n s t. refl)
 
 pub look-noted-requires : goal.look-noted-requires
 look-noted-requires c =
-                let moved = c.loop-p.invariant.1 in record {
+    let moved = c.loop-p.invariant.1 in record {
       arc_rows = (rows_among c.requires.arc_rows.0 moved.long, c.requires.arc_rows.1, c.requires.arc_rows.2 c.loop-p.p c.loop-p-test.true);
       count_in_bounds = omega (arith, c.requires.count_in_bounds, moved.together, moved.todo_long);
     }
 
 pub loop-p-preserved : goal.loop-p-preserved
 loop-p-preserved c =
-                    let inv = c.loop-p.invariant in
+    let inv = c.loop-p.invariant in
     let small = c.requires.arc_rows.2 c.loop-p.p c.loop-p-test.true in
     let turn = look_turn c.requires.arc_rows.0 in
     let args = c.args in (

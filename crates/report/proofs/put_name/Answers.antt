@@ -20,6 +20,6 @@ word-requires c =
 pub returns : goal.returns
 returns c =
                 let called = c.args in
-    subst (λ (text : List ℕ). Wrote called.out.now called.at text c.put_bytes.auto.out c.put_bytes.result)
+    subst (λ (text : List ℕ). Wrote called.out.now called.at text c.put_bytes.new.out c.put_bytes.result)
     (c.word.ensures ∙ (ap (λ (k : ℕ). word_of (drop (11 * (k - 1)) line)) c.number.ensures ∙ name_word called.name))
     c.put_bytes.ensures

@@ -24,7 +24,7 @@ slice_bounds-run_until-end-2 c =
 pub run_until-stop-requires : goal.run_until-stop-requires
 run_until-stop-requires c =
     let table : Table = table_of c.args.n c.args.s c.args.t c.args.tails.now c.args.heads.now c.args.capacities.now in
-    let filled : List ℕ = c.fill_work.auto.work in
+    let filled : List ℕ = c.fill_work.new.work in
     let in_work : InWork table filled = c.fill_work.ensures.listed c.args.s c.args.t c.args.capacities.now c.requires.accepted.rows.capacities_long in
     let part_long : length (take (length c.args.capacities.now) c.args.flow.now) ≡ length c.args.capacities.now = length-take-le _ _ c.requires.capacities_in_bounds.0 in
     (c.requires.accepted, in_work, part_long)
@@ -40,7 +40,7 @@ clear-requires c =
 
 pub returns : goal.returns
 returns c =
-    let filled : List ℕ = c.fill_work.auto.work in
+    let filled : List ℕ = c.fill_work.new.work in
     let given = c.args in
         record {
       counts_are = c.run_until-stop.ensures.counts_are;
@@ -49,6 +49,6 @@ returns c =
       scale_is = c.run_until-stop.ensures.scale_is;
       work_is =
           c.clear.ensures
-          ∙ cleared_is given.n (length given.capacities.now) _ c.room_need.ensures given.work.now filled c.run_until-stop.auto.work
+          ∙ cleared_is given.n (length given.capacities.now) _ c.room_need.ensures given.work.now filled c.run_until-stop.new.work
           (subst (λ (k : ℕ). ElseSame given.n k given.work.now filled) (sym c.requires.accepted.rows.capacities_long) c.fill_work.ensures.same) c.run_until-stop.ensures.lists_stay;
     }

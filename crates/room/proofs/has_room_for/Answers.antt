@@ -34,7 +34,7 @@ returns-in-Fine c =
     let given = c.args in
     let the_facts = whole _
     (fine_asking bounded given.stamp given.q given.work.now _ found c.in-Fine.is _
-    (asked_rows bounded.table given.stamp given.q given.work.now c.halt-stop.result c.answer_of.result c.halt-stop.auto.work c.halt-stop.ensures c.answer_of.ensures)) in record {
+    (asked_rows bounded.table given.stamp given.q given.work.now c.halt-stop.result c.answer_of.result c.halt-stop.new.work c.halt-stop.ensures c.answer_of.ensures)) in record {
       exact = the_facts.0;
       says = the_facts.1;
     }

@@ -16,7 +16,7 @@ fill_work-requires c =
 pub mark-requires : goal.mark-requires
 mark-requires c =
     let table : Table = table_of c.args.n c.args.s c.args.t c.args.tails.now c.args.heads.now c.args.capacities.now in
-    let in_work : InWork table c.fill_work.auto.work = c.fill_work.ensures.listed c.args.s c.args.t c.args.capacities.now c.requires.accepted.0.rows.capacities_long in
+    let in_work : InWork table c.fill_work.new.work = c.fill_work.ensures.listed c.args.s c.args.t c.args.capacities.now c.requires.accepted.0.rows.capacities_long in
     record {
       arc_rows = (c.requires.accepted.0.rows, c.requires.capacities_in_bounds.0, c.requires.accepted.0.source);
       by_index = (c.args.s, c.args.t, in_work);
@@ -26,7 +26,7 @@ mark-requires c =
 pub mark-requires-2 : goal.mark-requires-2
 mark-requires-2 c =
     let table : Table = table_of c.args.n c.args.s c.args.t c.args.tails.now c.args.heads.now c.args.capacities.now in
-    let in_work : InWork table c.fill_work.auto.work = c.fill_work.ensures.listed c.args.s c.args.t c.args.capacities.now c.requires.accepted.0.rows.capacities_long in
+    let in_work : InWork table c.fill_work.new.work = c.fill_work.ensures.listed c.args.s c.args.t c.args.capacities.now c.requires.accepted.0.rows.capacities_long in
     record {
       arc_rows = (rows_turned c.requires.accepted.0.rows, c.requires.capacities_in_bounds.0, c.requires.accepted.0.sink);
       by_index = (c.args.t, c.args.s, in_work_turned in_work c.args.t c.args.s);
@@ -36,7 +36,7 @@ mark-requires-2 c =
 pub returns : goal.returns
 returns c =
     let table : Table = table_of c.args.n c.args.s c.args.t c.args.tails.now c.args.heads.now c.args.capacities.now in
-    let in_work : InWork table c.fill_work.auto.work = c.fill_work.ensures.listed c.args.s c.args.t c.args.capacities.now c.requires.accepted.0.rows.capacities_long in
+    let in_work : InWork table c.fill_work.new.work = c.fill_work.ensures.listed c.args.s c.args.t c.args.capacities.now c.requires.accepted.0.rows.capacities_long in
     let given = c.args in record {
       in_work = in_work;
       fact = (

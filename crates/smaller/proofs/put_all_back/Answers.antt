@@ -36,7 +36,7 @@ pub returns : goal.returns
 returns c =
     let longs : (length c.args.tails.now ≡ length c.args.capacities.now) × (length c.args.flow.now ≡ length c.args.tails.now) = let long = c.requires.fact.0.rows.capacities_long in (sym long, c.requires.ahead_len.3 ∙ long) in
     let back : ℕ → ℕ = let args = c.args in back_by (arc_by args.ahead.now args.behind.now args.tails.now args.heads.now args.capacities.now) args.flows.now in
-    let flow : List ℕ = c.put_back.auto.flow in
+    let flow : List ℕ = c.put_back.new.flow in
     let flow_is : flow ≡ by_place back (length c.args.capacities.now) = c.put_back.ensures ∙ fill_all back (length c.args.tails.now) c.args.flow.now (omega (arith, longs.1)) ∙ ap (by_place back) longs.0 in
     record {
       flow_value = flow_is;

@@ -10,7 +10,7 @@ use Rattle.smaller.proofs.reduce.Goals as goal
 pub reduce_accepted-requires : goal.reduce_accepted-requires
 reduce_accepted-requires c =
     let bounded : BoundedTable = bounded_of c.args.n c.args.s c.args.t c.args.tails.now c.args.heads.now c.args.capacities.now c.args.minimums.now in
-    let small : SmallRows = small_rows c.args.small-tails.now c.args.small-heads.now c.args.small-capacities.now c.args.nodes_from.now c.args.arcs_from.now in
+    let small : SmallRows = small_rows c.args.small_tails.now c.args.small_heads.now c.args.small_capacities.now c.args.nodes_from.now c.args.arcs_from.now in
     let checked : c.plain_check.result ≡ reducing_verdict bounded (length c.args.flow.now) (length c.args.side.now) (length c.args.work.now) small = c.plain_check.ensures ∙ ap (plain_check bounded) (c.has_small_room-room.ensures ∙ ap (λ room. room && has_small_room bounded.table.nodes (length bounded.table.capacities) (length small.tails) (length small.heads) (length small.capacities) (length small.nodes_from) (length small.arcs_from)) c.has_room-solving.ensures) in
     let given = c.args in
     let (room, roomy) = fine_roomy bounded given.stamp given.flow.now given.side.now given.work.now small _ checked c.in-Fine.is in
@@ -22,7 +22,7 @@ reduce_accepted-requires c =
 pub returns-in-Refused : goal.returns-in-Refused
 returns-in-Refused c =
     let bounded : BoundedTable = bounded_of c.args.n c.args.s c.args.t c.args.tails.now c.args.heads.now c.args.capacities.now c.args.minimums.now in
-    let small : SmallRows = small_rows c.args.small-tails.now c.args.small-heads.now c.args.small-capacities.now c.args.nodes_from.now c.args.arcs_from.now in
+    let small : SmallRows = small_rows c.args.small_tails.now c.args.small_heads.now c.args.small_capacities.now c.args.nodes_from.now c.args.arcs_from.now in
     let checked : c.plain_check.result ≡ reducing_verdict bounded (length c.args.flow.now) (length c.args.side.now) (length c.args.work.now) small = c.plain_check.ensures ∙ ap (plain_check bounded) (c.has_small_room-room.ensures ∙ ap (λ room. room && has_small_room bounded.table.nodes (length bounded.table.capacities) (length small.tails) (length small.heads) (length small.capacities) (length small.nodes_from) (length small.arcs_from)) c.has_room-solving.ensures) in
     let answered : LeftReduced = reducing bounded c.args.stamp c.args.flow.now c.args.side.now c.args.work.now small in
     let whole : (l : LeftReduced) → l ≡ answered → (l ≡ answered) × (l.reduced.answer.refusal ≡ 0 → Reduces bounded.table l) = λ l e. (e, reducing_reduces bounded c.args.stamp c.args.flow.now c.args.side.now c.args.work.now small l e) in
@@ -36,7 +36,7 @@ returns-in-Refused c =
 pub returns-in-Fine : goal.returns-in-Fine
 returns-in-Fine c =
     let bounded : BoundedTable = bounded_of c.args.n c.args.s c.args.t c.args.tails.now c.args.heads.now c.args.capacities.now c.args.minimums.now in
-    let small : SmallRows = small_rows c.args.small-tails.now c.args.small-heads.now c.args.small-capacities.now c.args.nodes_from.now c.args.arcs_from.now in
+    let small : SmallRows = small_rows c.args.small_tails.now c.args.small_heads.now c.args.small_capacities.now c.args.nodes_from.now c.args.arcs_from.now in
     let checked : c.plain_check.result ≡ reducing_verdict bounded (length c.args.flow.now) (length c.args.side.now) (length c.args.work.now) small = c.plain_check.ensures ∙ ap (plain_check bounded) (c.has_small_room-room.ensures ∙ ap (λ room. room && has_small_room bounded.table.nodes (length bounded.table.capacities) (length small.tails) (length small.heads) (length small.capacities) (length small.nodes_from) (length small.arcs_from)) c.has_room-solving.ensures) in
     let answered : LeftReduced = reducing bounded c.args.stamp c.args.flow.now c.args.side.now c.args.work.now small in
     let whole : (l : LeftReduced) → l ≡ answered → (l ≡ answered) × (l.reduced.answer.refusal ≡ 0 → Reduces bounded.table l) = λ l e. (e, reducing_reduces bounded c.args.stamp c.args.flow.now c.args.side.now c.args.work.now small l e) in

@@ -83,5 +83,5 @@ returns c =
     let accepted : Accepted table = c.requires.fact.0 in
     let given = c.args in
         reduced_is table accepted given.ahead.now given.behind.now c.requires.fact.2 c.requires.fact.3 small c.write_small-sizes.result _ c.write_small-sizes.ensures
-    given.stamp given.flow.now given.side.now given.work.now c.solve_small-answer.auto.flows c.solve_small-answer.result c.raise_stamp.result _ _ _
+    given.stamp given.flow.now given.side.now given.work.now c.solve_small-answer.new.flows c.solve_small-answer.result c.raise_stamp.result _ _ _
     c.requires.ahead_len.6 c.solve_small-answer.ensures.1 c.solve_small-answer.ensures.0 c.raise_stamp.ensures c.put_all_back.ensures.flow_value c.put_all_back.ensures.side_value c.put_all_back.ensures.work_value

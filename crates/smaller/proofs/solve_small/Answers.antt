@@ -15,7 +15,7 @@ slice_bounds-solve_table-end-3 c = sym (length-take-le _ _ c.requires.arcs_in_bo
 
 pub solve_table-requires : goal.solve_table-requires
 solve_table-requires c =
-    let long : length (take c.args.arcs c.args.small-capacities.now) ≡ c.args.arcs = length-take-le c.args.arcs c.args.small-capacities.now c.requires.arcs_in_bounds.2 in
+    let long : length (take c.args.arcs c.args.small_capacities.now) ≡ c.args.arcs = length-take-le c.args.arcs c.args.small_capacities.now c.requires.arcs_in_bounds.2 in
     record {
       accepted = c.requires.accepted;
       given_room = (omega (arith, long, c.requires.arcs_in_bounds.3), c.requires.arcs_in_bounds.4, omega (arith, long, c.requires.arcs_in_bounds.5));
@@ -24,6 +24,6 @@ solve_table-requires c =
 pub returns : goal.returns
 returns c =
     let table : Table = let args = c.args in table_of args.nodes args.source args.sink (take args.arcs args.small-tails.now) (take args.arcs args.small-heads.now) (take args.arcs args.small-capacities.now) in
-    let long : length (take c.args.arcs c.args.small-capacities.now) ≡ c.args.arcs = length-take-le c.args.arcs c.args.small-capacities.now c.requires.arcs_in_bounds.2 in
+    let long : length (take c.args.arcs c.args.small_capacities.now) ≡ c.args.arcs = length-take-le c.args.arcs c.args.small_capacities.now c.requires.arcs_in_bounds.2 in
     let given = c.args in
     solved_found table c.requires.accepted given.stamp given.arcs given.flows.now given.marks.now given.room.now c.solve_table.result _ _ _ long c.solve_table.ensures

@@ -16,6 +16,6 @@ slice_bounds-number_behind-end c = sym (length-take-le _ _ (wrote_within c.put_f
 
 pub returns : goal.returns
 returns c =
-    let front : take c.put_front-end.result c.put_front-end.auto.out ≡ flow_front c.args.tail c.args.head = let a = c.args in wrote_whole c.put_front-end.ensures (omega (arith, front_length a.tail a.head)) in
+    let front : take c.put_front-end.result c.put_front-end.new.out ≡ flow_front c.args.tail c.args.head = let a = c.args in wrote_whole c.put_front-end.ensures (omega (arith, front_length a.tail a.head)) in
     let a = c.args in
     c.number_behind.ensures ∙ ap (λ (bytes : List ℕ). number_behind bytes a.capacity a.line.now) front

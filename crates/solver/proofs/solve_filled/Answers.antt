@@ -19,7 +19,7 @@ pub value-value-requires : goal.value-value-requires
 value-value-requires c =
     let table : Table = table_of c.args.n c.args.s c.args.t c.args.tails.now c.args.heads.now c.args.capacities.now in
     let accepted : Accepted table = c.requires.fact.0 in
-    let flow : List ℕ = c.run-outcome.auto.flow in
+    let flow : List ℕ = c.run-outcome.new.flow in
     let as_long : length flow ≡ arcs table = c.run-outcome.auto.flow ∙ c.requires.flow_len.0 in
     let rows = accepted.rows in record {
       heads_len = (rows.ends.heads_long, omega (arith, rows.capacities_long, as_long), rows.ends.few_arcs);
@@ -30,8 +30,8 @@ pub mark-requires : goal.mark-requires
 mark-requires c =
     let table : Table = table_of c.args.n c.args.s c.args.t c.args.tails.now c.args.heads.now c.args.capacities.now in
     let accepted : Accepted table = c.requires.fact.0 in
-    let flow : List ℕ = c.run-outcome.auto.flow in
-    let work : List ℕ = c.run-outcome.auto.work in
+    let flow : List ℕ = c.run-outcome.new.flow in
+    let work : List ℕ = c.run-outcome.new.work in
     let as_long : length flow ≡ arcs table = c.run-outcome.auto.flow ∙ c.requires.flow_len.0 in
     let in_work : InWork table work = in_work_kept table c.args.work.now work c.run-outcome.ensures.lists_stay (sym c.run-outcome.auto.work) c.requires.fact.1 in
     record {
@@ -44,10 +44,10 @@ pub returns : goal.returns
 returns c =
     let table : Table = table_of c.args.n c.args.s c.args.t c.args.tails.now c.args.heads.now c.args.capacities.now in
     let accepted : Accepted table = c.requires.fact.0 in
-    let flow : List ℕ = c.run-outcome.auto.flow in
-    let work : List ℕ = c.run-outcome.auto.work in
+    let flow : List ℕ = c.run-outcome.new.flow in
+    let work : List ℕ = c.run-outcome.new.work in
     filled_by table c.args.stamp c.args.side.now c.args.work.now c.run-outcome.result c.value-value.result c.answer_of.result flow
-    c.mark.auto.side work
+    c.mark.new.side work
     c.run-outcome.ensures
     (c.value-value.ensures c.args.n c.args.t c.args.capacities.now accepted.rows.capacities_long)
     (c.mark.ensures c.args.t)

@@ -33,9 +33,9 @@ clear-requires c =
 pub returns : goal.returns
 returns c =
     let table : Table = table_of c.args.n c.args.s c.args.t c.args.tails.now c.args.heads.now c.args.capacities.now in
-    let filled : List ℕ = c.fill_work.auto.work in
+    let filled : List ℕ = c.fill_work.new.work in
     let given = c.args in
-        let worked = c.solve_filled-answer.auto.work in
+        let worked = c.solve_filled-answer.new.work in
     solved_rows table given.stamp given.flow.now given.side.now given.work.now filled c.solve_filled-answer.result _ _ worked _
     c.requires.flow_len.0 c.solve_filled-answer.ensures
     (c.clear.ensures

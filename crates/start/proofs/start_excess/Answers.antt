@@ -19,11 +19,11 @@ pub loop-k-init : goal.loop-k-init
 loop-k-init c =
         let given = c.args in
     let n = length given.excess.now in
-    let zeros : c.clear.auto.row ≡ replicate n 0 = cleared_whole c.clear.auto.row given.excess.now n refl c.clear.ensures in
-    let same : length c.clear.auto.row ≡ n = c.clear.auto.row in (
+    let zeros : c.clear.new.row ≡ replicate n 0 = cleared_whole c.clear.new.row given.excess.now n refl c.clear.ensures in
+    let same : length c.clear.new.row ≡ n = c.clear.auto.row in (
       search rules,
       zeros
-          ∙ rw (← same) (row_first (table_of (length c.clear.auto.row) given.s given.t given.tails.now given.heads.now given.capacities.now) (length c.clear.auto.row)),
+          ∙ rw (← same) (row_first (table_of (length c.clear.new.row) given.s given.t given.tails.now given.heads.now given.capacities.now) (length c.clear.new.row)),
       refl,
       omega (arith, ap total zeros, total_zeros n),
     )
@@ -45,7 +45,7 @@ loop-k-preserved c =
     let kept = c.clear.auto.row in
     let more = c.loop-k-test.true in
     let node = c.requires.ends.head_node k (omega (arith, c.requires.capacities_long)) in
-    let n = length c.clear.auto.row in
+    let n = length c.clear.new.row in
     let T = table_of n given.s given.t given.tails.now given.heads.now given.capacities.now in
     let j = at_place given.heads.now k in
     let x = at_place given.capacities.now k in

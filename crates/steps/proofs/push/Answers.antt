@@ -55,6 +55,6 @@ pub returns : goal.returns
 returns c =
                     let given = c.args in
     pushed (table_of n given.s given.t given.tails.now heads given.capacities.now) given.delta (state_of given.flow.now given.excess.now label)
-    given.i given.k c.amount-d.result given.j c.residual-left.result c.send.auto.flow c.shift.auto.excess
+    given.i given.k c.amount-d.result given.j c.residual-left.result c.send.new.flow c.shift.new.excess
     (c.amount-d.ensures n given.s given.t heads label is) is (c.residual-left.ensures n given.s given.t heads)
     (c.send.ensures n given.s given.t heads given.capacities.now) (c.shift.ensures n given.tails.now heads given.capacities.now)

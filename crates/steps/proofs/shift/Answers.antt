@@ -14,14 +14,14 @@ pub returns-then-j-s : goal.returns-then-j-s
 returns-then-j-s c =
         let given = c.args in
     moved_source (table_of n given.s given.t tails heads capacities) given.excess.now given.i given.j given.d
-    c.at_node-held.result c.set_node.auto.row
+    c.at_node-held.result c.set_node.new.row
     c.at_node-held.ensures c.set_node.ensures c.if-j-s.true
 
 pub returns-then-j-t : goal.returns-then-j-t
 returns-then-j-t c =
         let given = c.args in
     moved_sink (table_of n given.s given.t tails heads capacities) given.excess.now given.i given.j given.d
-    c.at_node-held.result c.set_node.auto.row
+    c.at_node-held.result c.set_node.new.row
     c.at_node-held.ensures c.set_node.ensures c.if-j-t.true
 
 pub overflow_add-there : goal.overflow_add-there
@@ -35,7 +35,7 @@ pub returns : goal.returns
 returns c =
             let given = c.args in
     moved_inner (table_of n given.s given.t tails heads capacities) given.excess.now given.i given.j given.d
-    c.at_node-held.result c.set_node.auto.row
+    c.at_node-held.result c.set_node.new.row
     c.at_node-held.ensures c.set_node.ensures
-    c.at_node-there.result c.set_node-2.auto.row
+    c.at_node-there.result c.set_node-2.new.row
     c.if-j-s.false c.if-j-t.false c.at_node-there.ensures c.set_node-2.ensures

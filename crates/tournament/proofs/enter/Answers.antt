@@ -8,7 +8,7 @@ use Rattle.tournament.proofs.enter.Goals as goal
 pub returns-then-y-lt1048576 : goal.returns-then-y-lt1048576
 returns-then-y-lt1048576 c =
                 let two = apart keys c.args.j i c.args.y c.args.x js is c.if-x-y.true in
-    but_put n keys c.set_key.auto.tree i c.args.j c.args.y z (λ e. two (sym e)) js (c.set_key.ensures n _ at_j.1 few t)
+    but_put n keys c.set_key.new.tree i c.args.j c.args.y z (λ e. two (sym e)) js (c.set_key.ensures n _ at_j.1 few t)
 
 pub returns-else-y-lt1048576 : goal.returns-else-y-lt1048576
 returns-else-y-lt1048576 c =

@@ -17,8 +17,8 @@ loop-p-preserved c =
       omega arith,
       omega arith,
       c.settle.auto.tree ∙ c.loop-p.invariant.2,
-      join_on c.loop-p.tree c.settle.auto.tree c.loop-p.p (c.loop-p.p - 1) c.loop-p.invariant.2 (omega arith) (omega arith) (omega arith) c.loop-p.invariant.3 c.settle.ensures,
-      λ j. join_leaf c.loop-p.tree c.settle.auto.tree (c.loop-p.p - 1) _ j (omega arith) c.settle.ensures ∙ c.loop-p.invariant.4 j,
+      join_on c.loop-p.tree c.settle.new.tree c.loop-p.p (c.loop-p.p - 1) c.loop-p.invariant.2 (omega arith) (omega arith) (omega arith) c.loop-p.invariant.3 c.settle.ensures,
+      λ j. join_leaf c.loop-p.tree c.settle.new.tree (c.loop-p.p - 1) _ j (omega arith) c.settle.ensures ∙ c.loop-p.invariant.4 j,
     )
 
 pub shape_of-tree : goal.shape_of-tree

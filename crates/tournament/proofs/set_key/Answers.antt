@@ -27,7 +27,7 @@ loop-level-preserved c =
       omega (arith, size),
       omega (arith, size),
       c.climb-best.auto.tree ∙ c.loop-level.invariant.3,
-      λ n keys m. mend_on n keys c.loop-level.tree c.climb-best.auto.tree c.loop-level.p c.loop-level.best c.climb-best.result (omega (arith, size)) c.loop-level.invariant.0 (c.loop-level.invariant.4 n keys m) c.climb-best.ensures.0 c.climb-best.ensures.1,
+      λ n keys m. mend_on n keys c.loop-level.tree c.climb-best.new.tree c.loop-level.p c.loop-level.best c.climb-best.result (omega (arith, size)) c.loop-level.invariant.0 (c.loop-level.invariant.4 n keys m) c.climb-best.ensures.0 c.climb-best.ensures.1,
     )
 
 pub shape_of-tree : goal.shape_of-tree

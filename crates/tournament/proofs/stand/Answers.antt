@@ -8,4 +8,4 @@ returns-then-tree-i c =
 
 pub returns : goal.returns
 returns c =
-            stand_put n keys c.set_key.auto.tree c.args.i c.args.x z is (c.set_key.ensures n _ node.1 few t)
+            stand_put n keys c.set_key.new.tree c.args.i c.args.x z is (c.set_key.ensures n _ node.1 few t)

@@ -42,8 +42,8 @@ pub returns-then-i-sink : goal.returns-then-i-sink
 returns-then-i-sink c =
     let place : ℕ = c.leave-k.result in
     let sought : Found = walk c.args.tails.now c.args.heads.now c.args.sink c.args.left.now c.args.nodes [] c.args.start in
-    let came : Came c.args.tails.now c.args.heads.now c.args.left.now c.args.sink c.args.nodes sought (set c.loop-count.walked c.loop-count.count place) c.set_node.auto.row (get_or c.args.heads.now place 0) (c.loop-count.count + 1) = under_came _ _ _ _ _ _ _ _ _ _ c.loop-count.invariant.4 c.requires.ready.ends c.loop-count-test.true place c.leave-k.ensures.value c.if-tails-k.false _ c.set_node.ensures in
-    let gone : Ahead c.args.tails.now c.args.left.now c.leave-k.auto.first = c.leave-k.ensures.ahead in
+    let came : Came c.args.tails.now c.args.heads.now c.args.left.now c.args.sink c.args.nodes sought (set c.loop-count.walked c.loop-count.count place) c.set_node.new.row (get_or c.args.heads.now place 0) (c.loop-count.count + 1) = under_came _ _ _ _ _ _ _ _ _ _ c.loop-count.invariant.4 c.requires.ready.ends c.loop-count-test.true place c.leave-k.ensures.value c.if-tails-k.false _ c.set_node.ensures in
+    let gone : Ahead c.args.tails.now c.args.left.now c.leave-k.new.first = c.leave-k.ensures.ahead in
     record {
       fact = came_sink _ _ _ _ _ _ _ _ _ _ came c.if-i-sink.true;
       ahead = gone;
@@ -53,21 +53,21 @@ pub slice_bounds-when_left-end : goal.slice_bounds-when_left-end
 slice_bounds-when_left-end c =
     let place : ℕ = c.leave-k.result in
     let sought : Found = walk c.args.tails.now c.args.heads.now c.args.sink c.args.left.now c.args.nodes [] c.args.start in
-    let came : Came c.args.tails.now c.args.heads.now c.args.left.now c.args.sink c.args.nodes sought (set c.loop-count.walked c.loop-count.count place) c.set_node.auto.row (get_or c.args.heads.now place 0) (c.loop-count.count + 1) = under_came _ _ _ _ _ _ _ _ _ _ c.loop-count.invariant.4 c.requires.ready.ends c.loop-count-test.true place c.leave-k.ensures.value c.if-tails-k.false _ c.set_node.ensures in
+    let came : Came c.args.tails.now c.args.heads.now c.args.left.now c.args.sink c.args.nodes sought (set c.loop-count.walked c.loop-count.count place) c.set_node.new.row (get_or c.args.heads.now place 0) (c.loop-count.count + 1) = under_came _ _ _ _ _ _ _ _ _ _ c.loop-count.invariant.4 c.requires.ready.ends c.loop-count-test.true place c.leave-k.ensures.value c.if-tails-k.false _ c.set_node.ensures in
     omega (arith, came.rows.within, came.rows.room)
 
 pub slice_bounds-when_left-end-in-loop-count : goal.slice_bounds-when_left-end-in-loop-count
 slice_bounds-when_left-end-in-loop-count c =
     let place : ℕ = c.leave-k.result in
     let sought : Found = walk c.args.tails.now c.args.heads.now c.args.sink c.args.left.now c.args.nodes [] c.args.start in
-    let came : Came c.args.tails.now c.args.heads.now c.args.left.now c.args.sink c.args.nodes sought (set c.loop-count.walked c.loop-count.count place) c.set_node.auto.row (get_or c.args.heads.now place 0) (c.loop-count.count + 1) = under_came _ _ _ _ _ _ _ _ _ _ c.loop-count.invariant.4 c.requires.ready.ends c.loop-count-test.true place c.leave-k.ensures.value c.if-tails-k.false _ c.set_node.ensures in
+    let came : Came c.args.tails.now c.args.heads.now c.args.left.now c.args.sink c.args.nodes sought (set c.loop-count.walked c.loop-count.count place) c.set_node.new.row (get_or c.args.heads.now place 0) (c.loop-count.count + 1) = under_came _ _ _ _ _ _ _ _ _ _ c.loop-count.invariant.4 c.requires.ready.ends c.loop-count-test.true place c.leave-k.ensures.value c.if-tails-k.false _ c.set_node.ensures in
     sym (length-take-le _ _ (omega (arith, came.rows.within, came.rows.room)))
 
 pub when_left-from-requires : goal.when_left-from-requires
 when_left-from-requires c =
     let place : ℕ = c.leave-k.result in
     let sought : Found = walk c.args.tails.now c.args.heads.now c.args.sink c.args.left.now c.args.nodes [] c.args.start in
-    let came : Came c.args.tails.now c.args.heads.now c.args.left.now c.args.sink c.args.nodes sought (set c.loop-count.walked c.loop-count.count place) c.set_node.auto.row (get_or c.args.heads.now place 0) (c.loop-count.count + 1) = under_came _ _ _ _ _ _ _ _ _ _ c.loop-count.invariant.4 c.requires.ready.ends c.loop-count-test.true place c.leave-k.ensures.value c.if-tails-k.false _ c.set_node.ensures in
+    let came : Came c.args.tails.now c.args.heads.now c.args.left.now c.args.sink c.args.nodes sought (set c.loop-count.walked c.loop-count.count place) c.set_node.new.row (get_or c.args.heads.now place 0) (c.loop-count.count + 1) = under_came _ _ _ _ _ _ _ _ _ _ c.loop-count.invariant.4 c.requires.ready.ends c.loop-count-test.true place c.leave-k.ensures.value c.if-tails-k.false _ c.set_node.ensures in
     let rows = came.rows in record {
       places = (rows.inside, rows.noted);
       node = omega (arith, rows.node, rows.turns_long);
@@ -77,8 +77,8 @@ pub returns-then-from-count : goal.returns-then-from-count
 returns-then-from-count c =
     let place : ℕ = c.leave-k.result in
     let sought : Found = walk c.args.tails.now c.args.heads.now c.args.sink c.args.left.now c.args.nodes [] c.args.start in
-    let came : Came c.args.tails.now c.args.heads.now c.args.left.now c.args.sink c.args.nodes sought (set c.loop-count.walked c.loop-count.count place) c.set_node.auto.row (get_or c.args.heads.now place 0) (c.loop-count.count + 1) = under_came _ _ _ _ _ _ _ _ _ _ c.loop-count.invariant.4 c.requires.ready.ends c.loop-count-test.true place c.leave-k.ensures.value c.if-tails-k.false _ c.set_node.ensures in
-    let gone : Ahead c.args.tails.now c.args.left.now c.leave-k.auto.first = c.leave-k.ensures.ahead in
+    let came : Came c.args.tails.now c.args.heads.now c.args.left.now c.args.sink c.args.nodes sought (set c.loop-count.walked c.loop-count.count place) c.set_node.new.row (get_or c.args.heads.now place 0) (c.loop-count.count + 1) = under_came _ _ _ _ _ _ _ _ _ _ c.loop-count.invariant.4 c.requires.ready.ends c.loop-count-test.true place c.leave-k.ensures.value c.if-tails-k.false _ c.set_node.ensures in
+    let gone : Ahead c.args.tails.now c.args.left.now c.leave-k.new.first = c.leave-k.ensures.ahead in
     record {
       fact = came_ring _ _ _ _ _ _ _ _ _ _ came c.if-i-sink.false _ c.when_left-from.ensures c.if-from-count.true;
       ahead = gone;
@@ -88,8 +88,8 @@ pub loop-count-preserved : goal.loop-count-preserved
 loop-count-preserved c =
     let place : ℕ = c.leave-k.result in
     let sought : Found = walk c.args.tails.now c.args.heads.now c.args.sink c.args.left.now c.args.nodes [] c.args.start in
-    let came : Came c.args.tails.now c.args.heads.now c.args.left.now c.args.sink c.args.nodes sought (set c.loop-count.walked c.loop-count.count place) c.set_node.auto.row (get_or c.args.heads.now place 0) (c.loop-count.count + 1) = under_came _ _ _ _ _ _ _ _ _ _ c.loop-count.invariant.4 c.requires.ready.ends c.loop-count-test.true place c.leave-k.ensures.value c.if-tails-k.false _ c.set_node.ensures in
-    let gone : Ahead c.args.tails.now c.args.left.now c.leave-k.auto.first = c.leave-k.ensures.ahead in
+    let came : Came c.args.tails.now c.args.heads.now c.args.left.now c.args.sink c.args.nodes sought (set c.loop-count.walked c.loop-count.count place) c.set_node.new.row (get_or c.args.heads.now place 0) (c.loop-count.count + 1) = under_came _ _ _ _ _ _ _ _ _ _ c.loop-count.invariant.4 c.requires.ready.ends c.loop-count-test.true place c.leave-k.ensures.value c.if-tails-k.false _ c.set_node.ensures in
+    let gone : Ahead c.args.tails.now c.args.left.now c.leave-k.new.first = c.leave-k.ensures.ahead in
     (
       c.leave-k.auto.first ∙ c.loop-count.invariant.0,
       simp length-set c.loop-count.invariant.1,

@@ -47,5 +47,5 @@ returns c =
     let after = took_away _ _ _ _ _ _ _ _ _ _ _ _ found c.take_away.ensures in record {
       took = found;
       left_value = after;
-      ahead = ahead_without c.args.tails.now c.args.left.now c.follow-trip.auto.first _ _ c.follow-trip.ensures.ahead after;
+      ahead = ahead_without c.args.tails.now c.args.left.now c.follow-trip.new.first _ _ c.follow-trip.ensures.ahead after;
     }

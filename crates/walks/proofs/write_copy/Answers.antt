@@ -9,7 +9,7 @@ use Rattle.walks.proofs.write_copy.Goals as goal
 
 pub write_list-requires : goal.write_list-requires
 write_list-requires c =
-    let copied : c.store.auto.row ≡ c.args.flow.now = c.store.ensures ∙ sets_all c.args.left.now c.args.flow.now c.requires.ready.1 in
+    let copied : c.store.new.row ≡ c.args.flow.now = c.store.ensures ∙ sets_all c.args.left.now c.args.flow.now c.requires.ready.1 in
     record {
       ready = subst (λ (row : List ℕ). Ready c.args.nodes c.args.tails.now c.args.heads.now row c.args.first.now) (sym copied) c.requires.ready.0;
       nodes_in_bounds = c.requires.nodes_in_bounds;
@@ -17,7 +17,7 @@ write_list-requires c =
 
 pub returns : goal.returns
 returns c =
-    let copied : c.store.auto.row ≡ c.args.flow.now = c.store.ensures ∙ sets_all c.args.left.now c.args.flow.now c.requires.ready.1 in
+    let copied : c.store.new.row ≡ c.args.flow.now = c.store.ensures ∙ sets_all c.args.left.now c.args.flow.now c.requires.ready.1 in
     subst
-    (λ (row : List ℕ). Stored (list_of c.args.nodes c.args.source c.args.sink c.args.tails.now c.args.heads.now row) c.args.list.now c.write_list.auto.list c.write_list.result)
+    (λ (row : List ℕ). Stored (list_of c.args.nodes c.args.source c.args.sink c.args.tails.now c.args.heads.now row) c.args.list.now c.write_list.new.list c.write_list.result)
     copied c.write_list.ensures

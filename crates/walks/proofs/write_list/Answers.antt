@@ -32,12 +32,12 @@ take_next-taken-requires c = record {
 
 pub offset_bounds-walked-from : goal.offset_bounds-walked-from
 offset_bounds-walked-from c =
-    let few : length c.take_next-taken.auto.walked ≤ 512 = omega (arith, c.take_next-taken.auto.walked, c.loop-done.invariant.2, c.requires.nodes_in_bounds.1) in
+    let few : length c.take_next-taken.new.walked ≤ 512 = omega (arith, c.take_next-taken.auto.walked, c.loop-done.invariant.2, c.requires.nodes_in_bounds.1) in
     omega (arith, c.take_next-taken.ensures.took.in_order, c.take_next-taken.ensures.took.fits, few)
 
 pub write_piece-at-requires : goal.write_piece-at-requires
 write_piece-at-requires c =
-    let few : length c.take_next-taken.auto.walked ≤ 512 = omega (arith, c.take_next-taken.auto.walked, c.loop-done.invariant.2, c.requires.nodes_in_bounds.1) in
+    let few : length c.take_next-taken.new.walked ≤ 512 = omega (arith, c.take_next-taken.auto.walked, c.loop-done.invariant.2, c.requires.nodes_in_bounds.1) in
     (
       omega (arith, c.loop-done.invariant.7.bounded, c.loop-done.invariant.7.within, c.loop-done.invariant.5.ends.few_arcs),
       piece_short _ _ _ _ _ _ _ _ _ _ _ c.loop-done.invariant.7 c.loop-done-test.true _ c.first_left-lowest.ensures c.if-tails-lowest.false _ _ _ _ _ c.take_next-taken.ensures.took few,
@@ -45,7 +45,7 @@ write_piece-at-requires c =
 
 pub loop-done-preserved : goal.loop-done-preserved
 loop-done-preserved c =
-    let few : length c.take_next-taken.auto.walked ≤ 512 = omega (arith, c.take_next-taken.auto.walked, c.loop-done.invariant.2, c.requires.nodes_in_bounds.1) in
+    let few : length c.take_next-taken.new.walked ≤ 512 = omega (arith, c.take_next-taken.auto.walked, c.loop-done.invariant.2, c.requires.nodes_in_bounds.1) in
     (
       c.take_next-taken.auto.left ∙ c.loop-done.invariant.0,
       c.take_next-taken.auto.first ∙ c.loop-done.invariant.1,

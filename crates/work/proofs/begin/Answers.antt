@@ -21,25 +21,25 @@ start_excess-requires c =
 
 pub start_labels-requires : goal.start_labels-requires
 start_labels-requires c =
-    let excess_size : length c.start_excess.auto.excess ≡ c.args.n = c.start_excess.auto.excess ∙ length_excess c.args.n c.args.work.now c.requires.n_in_bounds.0 in
-    let roomy : starts_at c.args.n ≤ length (put_mid 0 (c.args.n - 0) c.args.work.now c.start_excess.auto.excess) = omega (arith, excess_length c.args.n c.args.work.now c.start_excess.auto.excess c.requires.n_in_bounds.0 excess_size, c.requires.n_in_bounds.0) in
-    let long_labels : length (labels_part c.args.n (put_mid 0 (c.args.n - 0) c.args.work.now c.start_excess.auto.excess)) ≡ c.args.n = length_labels c.args.n (put_mid 0 (c.args.n - 0) c.args.work.now c.start_excess.auto.excess) roomy in
+    let excess_size : length c.start_excess.new.excess ≡ c.args.n = c.start_excess.auto.excess ∙ length_excess c.args.n c.args.work.now c.requires.n_in_bounds.0 in
+    let roomy : starts_at c.args.n ≤ length (put_mid 0 (c.args.n - 0) c.args.work.now c.start_excess.new.excess) = omega (arith, excess_length c.args.n c.args.work.now c.start_excess.new.excess c.requires.n_in_bounds.0 excess_size, c.requires.n_in_bounds.0) in
+    let long_labels : length (labels_part c.args.n (put_mid 0 (c.args.n - 0) c.args.work.now c.start_excess.new.excess)) ≡ c.args.n = length_labels c.args.n (put_mid 0 (c.args.n - 0) c.args.work.now c.start_excess.new.excess) roomy in
     omega (arith, long_labels, c.requires.arc_rows.ends.few_nodes)
 
 pub returns : goal.returns
 returns c =
-    let excess_size : length c.start_excess.auto.excess ≡ c.args.n = c.start_excess.auto.excess ∙ length_excess c.args.n c.args.work.now c.requires.n_in_bounds.0 in
-    let roomy : starts_at c.args.n ≤ length (put_mid 0 (c.args.n - 0) c.args.work.now c.start_excess.auto.excess) = omega (arith, excess_length c.args.n c.args.work.now c.start_excess.auto.excess c.requires.n_in_bounds.0 excess_size, c.requires.n_in_bounds.0) in
-    let long_labels : length (labels_part c.args.n (put_mid 0 (c.args.n - 0) c.args.work.now c.start_excess.auto.excess)) ≡ c.args.n = length_labels c.args.n (put_mid 0 (c.args.n - 0) c.args.work.now c.start_excess.auto.excess) roomy in
+    let excess_size : length c.start_excess.new.excess ≡ c.args.n = c.start_excess.auto.excess ∙ length_excess c.args.n c.args.work.now c.requires.n_in_bounds.0 in
+    let roomy : starts_at c.args.n ≤ length (put_mid 0 (c.args.n - 0) c.args.work.now c.start_excess.new.excess) = omega (arith, excess_length c.args.n c.args.work.now c.start_excess.new.excess c.requires.n_in_bounds.0 excess_size, c.requires.n_in_bounds.0) in
+    let long_labels : length (labels_part c.args.n (put_mid 0 (c.args.n - 0) c.args.work.now c.start_excess.new.excess)) ≡ c.args.n = length_labels c.args.n (put_mid 0 (c.args.n - 0) c.args.work.now c.start_excess.new.excess) roomy in
     let given = c.args in
     let T = table_of given.n given.s given.t given.tails.now given.heads.now given.capacities.now in
         let long = long_labels in
     let labels_size = c.start_labels.auto.labels ∙ long in
-    let excess = c.start_excess.auto.excess in
-    let labels = c.start_labels.auto.labels in record {
+    let excess = c.start_excess.new.excess in
+    let labels = c.start_labels.new.labels in record {
       work_value = same_state refl (both_excess given.n given.work.now excess labels c.requires.n_in_bounds.0 excess_size labels_size)
           (both_labels given.n given.work.now excess labels c.requires.n_in_bounds.0 excess_size labels_size)
-          ∙ start_is T given.flow.now c.start_flow.auto.flow excess labels c.requires.n_in_bounds.1
+          ∙ start_is T given.flow.now c.start_flow.new.flow excess labels c.requires.n_in_bounds.1
           (c.start_flow.ensures given.n given.t given.heads.now)
           (c.start_excess.ensures ∙ ap (λ (m : ℕ). (begun (table_of m given.s given.t given.tails.now given.heads.now given.capacities.now)).excess) (length_excess given.n given.work.now c.requires.n_in_bounds.0))
           (c.start_labels.ensures given.tails.now given.heads.now given.capacities.now

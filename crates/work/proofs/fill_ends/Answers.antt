@@ -63,7 +63,7 @@ loop-i-preserved c =
           let same = places_are § s t known in
           let before = c.loop-i.invariant.2 s t known in (
             c.put_ends-p.ensures.value.0 ∙ joined_on T c.loop-i.i c.loop-i.p before.0 c.node_list.result.now same,
-            filled_on T c.loop-i.i c.loop-i.p before.0 c.node_list.result.now same c.loop-i.ends c.put_ends-p.auto.ends before.1 c.put_ends-p.ensures.value.1
+            filled_on T c.loop-i.i c.loop-i.p before.0 c.node_list.result.now same c.loop-i.ends c.put_ends-p.new.ends before.1 c.put_ends-p.ensures.value.1
                 (c.put_ends-p.ensures.by_index_2 c.args.n s t c.args.capacities.now),
           ),
     )

@@ -10,5 +10,5 @@ pub returns : goal.returns
 returns c =
             let n = c.args.n in
     let row = c.args.work.now in
-    subst (λ (m : ℕ). Chose m c.args.delta (excess_part n row) (labels_part n row) c.choose_first.auto.tree c.choose_first.result)
+    subst (λ (m : ℕ). Chose m c.args.delta (excess_part n row) (labels_part n row) c.choose_first.new.tree c.choose_first.result)
     (length_labels n row c.requires.1) c.choose_first.ensures

@@ -26,5 +26,5 @@ pub returns : goal.returns
 returns c =
             let n = c.args.n in
     let row = c.args.work.now in
-    subst (λ (m : ℕ). Chose m c.args.delta (excess_part n row) (labels_part n row) c.choose_next.auto.tree c.choose_next.result)
+    subst (λ (m : ℕ). Chose m c.args.delta (excess_part n row) (labels_part n row) c.choose_next.new.tree c.choose_next.result)
     (length_labels n row c.requires.n_bound.1) c.choose_next.ensures

@@ -26,7 +26,7 @@ pub returns : goal.returns
 returns c =
             let given = c.args in
     let size = c.push.auto.excess ∙ length_excess given.n given.work.now c.requires.arc_rows.1 in
-    let new = c.push.auto.excess in
+    let new = c.push.new.excess in
     let told = c.push.ensures given.n given.heads.now (labels_part given.n given.work.now) c.requires.fact.3 in record {
       work_value = same_state refl (excess_excess given.n given.work.now new c.requires.arc_rows.1 size) (excess_labels given.n given.work.now new c.requires.arc_rows.1 size)
           ∙ pushed_state told;

@@ -46,7 +46,7 @@ pub fill_ends-requires : goal.fill_ends-requires
 fill_ends-requires c =
     let table : Table = table_of c.args.n c.args.s c.args.t c.args.tails.now c.args.heads.now c.args.capacities.now in
     let first : List ℕ = c.begin.new.work in
-    let work : List ℕ = c.clear_looked.auto.work in
+    let work : List ℕ = c.clear_looked.new.work in
     let lists : SameLists c.args.n c.args.work.now work = lists_on (lists_kept c.args.n c.args.work.now first c.begin.ensures.work_value_2) c.clear_looked.ensures.same_lists in
     let in_work : InWork table work = in_work_kept table c.args.work.now work lists (sym (c.clear_looked.auto.work ∙ c.begin.auto.work)) c.requires.1 in
     record {
@@ -60,7 +60,7 @@ phases-taken-requires c =
     let table : Table = table_of c.args.n c.args.s c.args.t c.args.tails.now c.args.heads.now c.args.capacities.now in
     let flow : List ℕ = c.begin.new.flow in
     let first : List ℕ = c.begin.new.work in
-    let work : List ℕ = c.clear_looked.auto.work in
+    let work : List ℕ = c.clear_looked.new.work in
     let state_is : state_in c.args.n flow work ≡ start table = same_state refl c.clear_looked.ensures.work_value c.clear_looked.ensures.work_value_2 ∙ c.begin.ensures.work_value in
     let flow_is : flow ≡ (start table).flow = ap (λ (st : State). st.flow) c.begin.ensures.work_value in
     let looked : Looked table (state_in c.args.n flow work) (looked_part c.args.n work) = looked_none table (state_in c.args.n flow work) (looked_part c.args.n work) c.clear_looked.ensures.work_value_3 in
@@ -90,7 +90,7 @@ returns c =
     let table : Table = table_of c.args.n c.args.s c.args.t c.args.tails.now c.args.heads.now c.args.capacities.now in
     let flow : List ℕ = c.begin.new.flow in
     let first : List ℕ = c.begin.new.work in
-    let work : List ℕ = c.clear_looked.auto.work in
+    let work : List ℕ = c.clear_looked.new.work in
     let state_is : state_in c.args.n flow work ≡ start table = same_state refl c.clear_looked.ensures.work_value c.clear_looked.ensures.work_value_2 ∙ c.begin.ensures.work_value in
     let lists : SameLists c.args.n c.args.work.now work = lists_on (lists_kept c.args.n c.args.work.now first c.begin.ensures.work_value_2) c.clear_looked.ensures.same_lists in
     let count_is : c.count_phases-count.result ≡ phase_count table = c.count_phases-count.ensures.0 ∙ ap (λ (st : State). phases_for (largest st.excess)) state_is in

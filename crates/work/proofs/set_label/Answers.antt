@@ -13,7 +13,7 @@ pub returns : goal.returns
 returns c =
             let given = c.args in
     let size = c.set_node.auto.row ∙ length_labels given.n given.work.now c.requires.0 in
-    let new = c.set_node.auto.row in record {
+    let new = c.set_node.new.row in record {
       work_value = labels_excess given.n given.work.now new c.requires.0 size;
       work_value_2 = labels_labels given.n given.work.now new c.requires.0 size ∙ c.set_node.ensures;
       work_value_3 = labels_lists given.n given.work.now new c.requires.0 size;

@@ -74,7 +74,7 @@ returns-in-At c =
     let spot_at : SpotIs table state c.args.i (list table c.args.i) (At position place there) = subst (SpotIs table state c.args.i (list table c.args.i)) c.in-At.is spot in
     let below : place < length c.args.capacities.now = subst⁻¹ (λ (k : ℕ). k < length c.args.capacities.now) spot_at.1 (list_stands table c.args.i position spot_at.0).0 in
     let given = c.args in
-    let work_then = c.push_from-full.auto.work in record {
+    let work_then = c.push_from-full.new.work in record {
       fact_2 = stepped_push table given.delta state given.counts given.i (looked_part given.n given.work.now) c.requires.arc_rows.0.ends.few_nodes c.requires.in_phase.0.fits c.requires.in_phase.1
           c.requires.fact.0 c.requires.fact.1 _ _ _ position place there c.push_from-full.result spot_at
           (far_node given.s given.t given.i c.requires.arc_rows.0 below there spot_at.4)
@@ -89,7 +89,7 @@ returns-in-End c =
     let state : State = state_in c.args.n c.args.flow.now c.args.work.now in
     let spot : SpotIs table state c.args.i (list table c.args.i) c.search_list.result = c.search_list.ensures c.args.s c.args.t c.requires.arc_rows.1 c.requires.arc_rows.2 c.requires.fact.1 in
     let given = c.args in
-    let work_then = c.set_label.auto.work in record {
+    let work_then = c.set_label.new.work in record {
       fact_2 = stepped_relabel table given.delta state given.counts given.i (looked_part given.n given.work.now) c.requires.arc_rows.0.ends.few_nodes c.requires.in_phase.0.fits c.requires.in_phase.1
           c.requires.fact.0 c.requires.fact.1 _ _ _ c.label_from_list-found.result
           (subst (SpotIs table state given.i (list table given.i)) c.in-End.is spot)

@@ -26,8 +26,8 @@ pub next_choice-next-requires : goal.next_choice-next-requires
 next_choice-next-requires c =
     let table : Table = table_of c.args.n c.args.s c.args.t c.args.tails.now c.args.heads.now c.args.capacities.now in
     let first : Run = run_in c.args.n c.args.flow.now c.args.work.now c.args.tally.counts in
-    let work_then : List ℕ = c.step-done.auto.work in
-    let after : Run = run_in c.args.n c.step-done.auto.flow work_then c.step-done.result.counts in
+    let work_then : List ℕ = c.step-done.new.work in
+    let after : Run = run_in c.args.n c.step-done.new.flow work_then c.step-done.result.counts in
     let stepped : Stepped table c.args.delta first c.args.i after (looked_part c.args.n work_then) c.step-done.result.other = c.step-done.ensures.fact_2 in
     record {
       n_bound = (
@@ -52,8 +52,8 @@ pub brought-requires : goal.brought-requires
 brought-requires c =
     let table : Table = table_of c.args.n c.args.s c.args.t c.args.tails.now c.args.heads.now c.args.capacities.now in
     let first : Run = run_in c.args.n c.args.flow.now c.args.work.now c.args.tally.counts in
-    let work_then : List ℕ = c.step-done.auto.work in
-    let after : Run = run_in c.args.n c.step-done.auto.flow work_then c.step-done.result.counts in
+    let work_then : List ℕ = c.step-done.new.work in
+    let after : Run = run_in c.args.n c.step-done.new.flow work_then c.step-done.result.counts in
     let stepped : Stepped table c.args.delta first c.args.i after (looked_part c.args.n work_then) c.step-done.result.other = c.step-done.ensures.fact_2 in
     let had_is : c.excess_at-had.result ≡ at_node (excess_part c.args.n c.args.work.now) c.args.i = c.excess_at-had.ensures in
     let has_is : c.excess_at-has.result ≡ at_node after.state.excess c.args.i = c.excess_at-has.ensures in
@@ -66,8 +66,8 @@ pub returns : goal.returns
 returns c =
     let table : Table = table_of c.args.n c.args.s c.args.t c.args.tails.now c.args.heads.now c.args.capacities.now in
     let first : Run = run_in c.args.n c.args.flow.now c.args.work.now c.args.tally.counts in
-    let work_then : List ℕ = c.step-done.auto.work in
-    let after : Run = run_in c.args.n c.step-done.auto.flow work_then c.step-done.result.counts in
+    let work_then : List ℕ = c.step-done.new.work in
+    let after : Run = run_in c.args.n c.step-done.new.flow work_then c.step-done.result.counts in
     let stepped : Stepped table c.args.delta first c.args.i after (looked_part c.args.n work_then) c.step-done.result.other = c.step-done.ensures.fact_2 in
     let had_is : c.excess_at-had.result ≡ at_node (excess_part c.args.n c.args.work.now) c.args.i = c.excess_at-had.ensures in
     let has_is : c.excess_at-has.result ≡ at_node after.state.excess c.args.i = c.excess_at-has.ensures in
