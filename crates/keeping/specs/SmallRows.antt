@@ -15,4 +15,3 @@ pub record SmallRows : Type 0 where
 abbrev pub small_rows : (tails heads capacities nodes_from arcs_from : List ℕ) → SmallRows
 small_rows tails heads capacities nodes_from arcs_from =
     record { tails = tails; heads = heads; capacities = capacities; nodes_from = nodes_from; arcs_from = arcs_from }
-

@@ -1,5 +1,6 @@
 // Which nodes and arcs a smaller table keeps: listed, numbered and written, over bare rows; and its flow put back.
 #![tactic(auto)]
+
 ghost use Rattle.std.specs.Prelude.{◌≡◌, true, cond, map, ◌++◌, ℕ, suc, ◌+◌, ◌≤◌, ◌<◌, length, take, drop};
 ghost use Rattle.rows.specs.Row.{Node, at_place, at_node, by_place, by_node};
 ghost use Rattle.table.specs.Accepted.{ArcEnds};

@@ -1,5 +1,6 @@
 // The arcs of each ordered pair of nodes: found by its tail and its head, and what is left of their capacities (for document 02, CR 8).
 #![tactic(auto)]
+
 ghost use Rattle.std.specs.Prelude.{ℕ, ◌+◌, ◌*◌, ◌≤◌, ◌<◌, ◌≡◌, [], ◌∷◌, length};
 ghost use Rattle.rows.specs.Row.{at_place};
 ghost use Rattle.table.specs.Accepted.{ArcEnds, ArcRows};

@@ -1,5 +1,6 @@
 // Document 02, CR 8: checks a rota maker's plan, whether its solution text with its side marks shows a full week.
 #![tactic(auto)]
+
 ghost use Rattle.std.specs.Prelude.{ℕ, ◌+◌, ◌≤◌, ◌≡◌, true, false, not, ◌&&◌, eqb, length};
 ghost use Rattle.rows.specs.Row.{Node, at_place};
 ghost use Rattle.rows.specs.Sum.{only};

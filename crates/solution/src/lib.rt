@@ -1,5 +1,6 @@
 // Document 02, CR 1: writes a solution as DIMACS solution text, and reads such a text back against its table.
 #![tactic(auto)]
+
 ghost use Rattle.std.specs.Prelude.{◌≡◌, ◌≤◌, length, drop};
 ghost use Rattle.table.specs.Table.{lent_table};
 ghost use Rattle.table.specs.Refusals.{number_of};

@@ -1,5 +1,6 @@
 // The start of the run over bare rows, the scale and the value.
 #![tactic(auto)]
+
 ghost use Rattle.std.specs.Prelude.{◌≡◌, List, ◌++◌, ℕ, ◌+◌, ◌^◌, ◌≤◌, ◌<◌, length, drop};
 ghost use Rattle.rows.specs.Row.{Node, at_node, by_node};
 ghost use Rattle.table.specs.Table.{table_of, lent_table};

@@ -1,5 +1,6 @@
 // The parts of a step over bare rows: search, push and relabel.
 #![tactic(auto)]
+
 ghost use Rattle.std.specs.Prelude.{◌≡◌, true, List, ℕ, ◌+◌, ◌-◌, ◌*◌, ◌^◌, ◌≤◌, ◌<◌, min, length};
 ghost use Rattle.rows.specs.Row.{Node, at_place, at_node};
 ghost use Rattle.table.specs.Table.{table_of};

@@ -17,7 +17,7 @@ loop-k-init c = (omega arith, gathered_none _ 0 _ refl)
 
 pub keeps_arc-requires : goal.keeps_arc-requires
 keeps_arc-requires c =
-        (c.requires.0, c.requires.1, c.requires.2, c.loop-k-test.true)
+    (c.requires.0, c.requires.1, c.requires.2, c.loop-k-test.true)
 
 pub overflow_cast-list : goal.overflow_cast-list
 overflow_cast-list c = omega (arith, c.requires.0.few_arcs, c.loop-k-test.true)
@@ -63,5 +63,5 @@ shape_of-list c = c.loop-k.invariant.1.long
 
 pub returns : goal.returns
 returns c =
-        let all : c.loop-k.k ≡ length c.args.tails.now = omega (arith, c.loop-k.invariant.0, c.loop-k-test.false) in
+    let all : c.loop-k.k ≡ length c.args.tails.now = omega (arith, c.loop-k.invariant.0, c.loop-k-test.false) in
     (rw (← all) c.loop-k.invariant.1.counted, rw (← all) c.loop-k.invariant.1.filled)

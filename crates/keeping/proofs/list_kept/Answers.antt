@@ -13,7 +13,7 @@ use Rattle.keeping.proofs.list_kept.Goals as goal
 
 pub loop-k-init : goal.loop-k-init
 loop-k-init c =
-        let args = c.args in
+    let args = c.args in
     (omega arith, gathered_none _ 1 _ (none_before args.ahead.now args.behind.now args.s args.t c.requires.3.0 c.requires.3.1))
 
 pub overflow_add-i : goal.overflow_add-i
@@ -72,5 +72,5 @@ shape_of-list c = c.loop-k.invariant.1.long
 
 pub returns : goal.returns
 returns c =
-        let all : c.loop-k.k ≡ length c.args.ahead.now = omega (arith, c.loop-k.invariant.0, c.loop-k-test.false) in
+    let all : c.loop-k.k ≡ length c.args.ahead.now = omega (arith, c.loop-k.invariant.0, c.loop-k-test.false) in
     (rw (← all) c.loop-k.invariant.1.counted, rw (← all) c.loop-k.invariant.1.filled)

@@ -13,7 +13,7 @@ use Rattle.keeping.proofs.number_nodes.Goals as goal
 
 pub loop-k-init : goal.loop-k-init
 loop-k-init c =
-        let args = c.args in
+    let args = c.args in
     (omega arith, refl, sym (ap length (none_before args.ahead.now args.behind.now args.s args.t c.requires.3.0 c.requires.3.1)), fill_none _ _)
 
 pub overflow_add-k : goal.overflow_add-k

@@ -18,7 +18,7 @@ loop-k-init c = (omega arith, refl, refl, fill_none _ _)
 
 pub keeps_arc-keep-requires : goal.keeps_arc-keep-requires
 keeps_arc-keep-requires c =
-        (c.requires.0, c.requires.1, c.requires.2, c.loop-k-test.true)
+    (c.requires.0, c.requires.1, c.requires.2, c.loop-k-test.true)
 
 pub taken-requires : goal.taken-requires
 taken-requires c =
@@ -41,8 +41,7 @@ loop-k-preserved c =
     let k = c.loop-k.k in
     let more = c.loop-k-test.true in
     let args = c.args in
-    let on : k + 1 ≡ suc k = omega arith in
-    (
+    let on : k + 1 ≡ suc k = omega arith in (
       omega (arith, more),
       simp length-set c.loop-k.invariant.1,
       rw on (count_by test k c.loop-k.count c.one_more-count.result _ c.keeps_arc-keep.ensures c.loop-k.invariant.2 c.one_more-count.ensures),
@@ -56,5 +55,5 @@ shape_of-flow c = c.loop-k.invariant.1
 
 pub returns : goal.returns
 returns c =
-        let all : c.loop-k.k ≡ length c.args.tails.now = omega (arith, c.loop-k.invariant.0, c.loop-k-test.false) in
+    let all : c.loop-k.k ≡ length c.args.tails.now = omega (arith, c.loop-k.invariant.0, c.loop-k-test.false) in
     rw (← all) c.loop-k.invariant.3

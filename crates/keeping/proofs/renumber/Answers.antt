@@ -26,7 +26,7 @@ bounds-ends-k c = c.requires.0 c.loop-j.j c.loop-j-test.true
 
 pub at_node-requires : goal.at_node-requires
 at_node-requires c =
-            c.requires.1 _ (c.requires.0 c.loop-j.j c.loop-j-test.true)
+    c.requires.1 _ (c.requires.0 c.loop-j.j c.loop-j-test.true)
 
 pub bounds-row-j : goal.bounds-row-j
 bounds-row-j c = omega (arith, c.requires.2, c.loop-j.invariant.1, c.loop-j-test.true)

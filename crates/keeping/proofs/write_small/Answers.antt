@@ -54,7 +54,7 @@ returns c =
     let args = c.args in
     let n = length args.ahead.now in
     let m = length args.tails.now in
-                    record {
+    record {
       nodes_are = c.list_kept-nodes.ensures.0;
       arcs_are = c.list_arcs-arcs.ensures.0;
       source_is = c.at_node.ensures ∙ ap (λ (l : List ℕ). at_node l args.s) c.number_nodes.ensures ∙ at_nodes (up_to node_test) n args.s c.requires.node.0;

@@ -9,7 +9,7 @@ use Rattle.pairs.proofs.find_pair.Goals as goal
 
 pub returns-then-not-is_node : goal.returns-then-not-is_node
 returns-then-not-is_node c =
-        λ place p. sym (p.others c.args.a c.args.b (node_none c.args.n c.args.a (sym c.is_node.ensures ∙ c.if-not-is_node.true)))
+    λ place p. sym (p.others c.args.a c.args.b (node_none c.args.n c.args.a (sym c.is_node.ensures ∙ c.if-not-is_node.true)))
 
 pub chain_of-requires : goal.chain_of-requires
 chain_of-requires c =
@@ -23,7 +23,7 @@ bounds-first-chain_of c =
 
 pub find_from-requires : goal.find_from-requires
 find_from-requires c =
-        (c.requires.1.falls, c.requires.1.starts c.chain_of.result, c.requires.1.next_long)
+    (c.requires.1.falls, c.requires.1.starts c.chain_of.result, c.requires.1.next_long)
 
 pub returns : goal.returns
 returns c =

@@ -10,13 +10,13 @@ use Rattle.pairs.proofs.index_arc.Goals as goal
 
 pub find_pair-requires : goal.find_pair-requires
 find_pair-requires c =
-        (first_to (at_place c.args.tails.now) (at_place c.args.heads.now) c.args.place, c.requires.built.places)
+    (first_to (at_place c.args.tails.now) (at_place c.args.heads.now) c.args.place, c.requires.built.places)
 
 pub returns-then-find_pair-ne0 : goal.returns-then-find_pair-ne0
 returns-then-find_pair-ne0 c =
     let found : c.find_pair.result ≡ first_to (at_place c.args.tails.now) (at_place c.args.heads.now) c.args.place (at_place c.args.tails.now c.args.place) (at_place c.args.heads.now c.args.place) = c.find_pair.ensures (first_to (at_place c.args.tails.now) (at_place c.args.heads.now) c.args.place) c.requires.built.places in
     let a = c.args in
-        built_same a.n a.place a.tails.now a.heads.now a.first.now a.next.now c.requires.arc_ends.0 c.requires.arc_ends.1 c.requires.built (c.find_pair.result - 1) (omega (arith, found, c.if-find_pair-ne0.true)) (a.place + 1) (omega arith)
+    built_same a.n a.place a.tails.now a.heads.now a.first.now a.next.now c.requires.arc_ends.0 c.requires.arc_ends.1 c.requires.built (c.find_pair.result - 1) (omega (arith, found, c.if-find_pair-ne0.true)) (a.place + 1) (omega arith)
 
 pub chain_of-chain-requires : goal.chain_of-chain-requires
 chain_of-chain-requires c =
@@ -51,4 +51,4 @@ pub returns : goal.returns
 returns c =
     let found : c.find_pair.result ≡ first_to (at_place c.args.tails.now) (at_place c.args.heads.now) c.args.place (at_place c.args.tails.now c.args.place) (at_place c.args.heads.now c.args.place) = c.find_pair.ensures (first_to (at_place c.args.tails.now) (at_place c.args.heads.now) c.args.place) c.requires.built.places in
     let a = c.args in
-        built_added a.n a.place a.tails.now a.heads.now a.first.now a.next.now c.requires.arc_ends.0 c.requires.arc_ends.1 c.requires.built (omega (arith, found, c.if-find_pair-ne0.false)) (a.place + 1) (omega arith) c.chain_of-chain.result c.chain_of-chain.ensures
+    built_added a.n a.place a.tails.now a.heads.now a.first.now a.next.now c.requires.arc_ends.0 c.requires.arc_ends.1 c.requires.built (omega (arith, found, c.if-find_pair-ne0.false)) (a.place + 1) (omega arith) c.chain_of-chain.result c.chain_of-chain.ensures

@@ -8,9 +8,9 @@ use Rattle.plan.proofs.sums_fit.Goals as goal
 
 pub take_text-requires : goal.take_text-requires
 take_text-requires c = record {
-      arc_rows = (c.requires.0.rows, c.requires.1);
-      out_len = (zeros_length 512, zeros_length 512, zeros_row 512, zeros_row 512);
-    }
+  arc_rows = (c.requires.0.rows, c.requires.1);
+  out_len = (zeros_length 512, zeros_length 512, zeros_row 512, zeros_row 512);
+}
 
 pub returns-then-not-take_text : goal.returns-then-not-take_text
 returns-then-not-take_text c =

@@ -14,17 +14,16 @@ use Rattle.plan.proofs.Amounts.{amounts_from, amounts_here, amounts_end, balance
 use Rattle.plan.proofs.take_amounts.Goals as goal
 
 pub loop-at-init : goal.loop-at-init
-loop-at-init c =
-    (
-      c.requires.rows.0,
-      omega arith,
-      λ k. omega (arith, c.requires.rows.2 k),
-      λ k. omega (arith, c.requires.rows.3 k),
-      λ i v. omega (arith, c.requires.rows.2 (i - 1)),
-      λ i v. omega (arith, c.requires.rows.3 (i - 1)),
-      λ place p a b. refl,
-      refl,
-    )
+loop-at-init c = (
+  c.requires.rows.0,
+  omega arith,
+  λ k. omega (arith, c.requires.rows.2 k),
+  λ k. omega (arith, c.requires.rows.3 k),
+  λ i v. omega (arith, c.requires.rows.2 (i - 1)),
+  λ i v. omega (arith, c.requires.rows.3 (i - 1)),
+  λ place p a b. refl,
+  refl,
+)
 
 pub slice_bounds-line_kind-end : goal.slice_bounds-line_kind-end
 slice_bounds-line_kind-end c =
@@ -33,9 +32,9 @@ slice_bounds-line_kind-end c =
 
 pub take_kind-fits-requires : goal.take_kind-fits-requires
 take_kind-fits-requires c = record {
-      by_index = c.requires.by_index;
-      rows = (c.loop-at.invariant.0, λ k. omega (arith, c.loop-at.invariant.2 k), λ k. omega (arith, c.loop-at.invariant.3 k));
-    }
+  by_index = c.requires.by_index;
+  rows = (c.loop-at.invariant.0, λ k. omega (arith, c.loop-at.invariant.2 k), λ k. omega (arith, c.loop-at.invariant.3 k));
+}
 
 pub overflow_add-at : goal.overflow_add-at
 overflow_add-at c =
@@ -71,7 +70,7 @@ shape_of-room c = c.loop-at.invariant.7
 
 pub returns : goal.returns
 returns c =
-        let a = c.args in
+    let a = c.args in
     let all = amounts_from a.text.now 0 in
     let rest = amounts_from a.text.now c.loop-at.at in
     let none = amounts_end a.text.now c.loop-at.at c.loop-at-test.false in record {

@@ -16,7 +16,7 @@ returns-in_default c =
 
 pub returns-then-not-fits : goal.returns-then-not-fits
 returns-then-not-fits c =
-                let a = c.args in
+    let a = c.args in
     let one = one_amount a.kind c.in-FlowLine.x c.in-FlowLine.is in record {
       outs = adds_amount a.n a.out.now c.add_at.new.row (λ i x. eqb x.tail i) _ _ one c.add_at.ensures;
       intos = adds_amount a.n a.into.now c.add_at-2.new.row (λ i x. eqb x.head i) _ _ one c.add_at-2.ensures;
@@ -25,12 +25,12 @@ returns-then-not-fits c =
 
 pub returns : goal.returns
 returns c =
-                    let a = c.args in
+    let a = c.args in
     let one = one_amount a.kind c.in-FlowLine.x c.in-FlowLine.is in record {
       outs = adds_amount a.n a.out.now c.add_at.new.row (λ i x. eqb x.tail i) _ _ one c.add_at.ensures;
       intos = adds_amount a.n a.into.now c.add_at-2.new.row (λ i x. eqb x.head i) _ _ one c.add_at-2.ensures;
       pairs = λ place p. (
-          λ e. takes_amount place a.room.now c.take_pair.new.room _ _ c.take_pair.result one (c.take_pair.ensures place p),
-          λ e. absurd (true≢false (sym c.if-not-fits.false ∙ e)),
-        );
+        λ e. takes_amount place a.room.now c.take_pair.new.room _ _ c.take_pair.result one (c.take_pair.ensures place p),
+        λ e. absurd (true≢false (sym c.if-not-fits.false ∙ e)),
+      );
     }

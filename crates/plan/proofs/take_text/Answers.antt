@@ -19,9 +19,9 @@ index_arcs-requires c =
 
 pub fill_room-requires : goal.fill_room-requires
 fill_room-requires c = record {
-      arc_rows = (c.requires.arc_rows.0, omega (arith, zeros_length 4096, c.requires.arc_rows.0.ends.few_arcs), zeros_row 4096);
-      places = c.index_arcs.ensures;
-    }
+  arc_rows = (c.requires.arc_rows.0, omega (arith, zeros_length 4096, c.requires.arc_rows.0.ends.few_arcs), zeros_row 4096);
+  places = c.index_arcs.ensures;
+}
 
 pub take_amounts-requires : goal.take_amounts-requires
 take_amounts-requires c =
@@ -48,5 +48,5 @@ returns c =
       outs = c.take_amounts.ensures.outs;
       intos = c.take_amounts.ensures.intos;
       pairs = took_below places a.tails.now a.heads.now a.capacities.now c.fill_room.new.room c.fill_room.ensures (amounts_of (lines a.text.now)) c.take_amounts.result
-            (c.take_amounts.ensures.pairs places c.index_arcs.ensures);
+          (c.take_amounts.ensures.pairs places c.index_arcs.ensures);
     }

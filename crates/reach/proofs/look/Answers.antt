@@ -9,7 +9,7 @@ note-requires c =
     omega (arith, c.requires.count_in_bounds, c.requires.arc_rows.0.ends.head_node c.args.k (omega (arith, c.requires.arc_rows.2, c.requires.arc_rows.0.capacities_long)))
 
 pub returns-then-tail-i : goal.returns-then-tail-i
-returns-then-tail-i c =
+returns-then-tail-i c n s t =
     let args = c.args in
     look_ahead (table_of n s t args.tails.now args.heads.now args.capacities.now) args.flow.now args.i args.k _ c.if-tail-i.true c.note.ensures
 
@@ -18,6 +18,6 @@ note-requires-2 c =
     omega (arith, c.requires.count_in_bounds, c.requires.arc_rows.0.ends.tail_node c.args.k (omega (arith, c.requires.arc_rows.2, c.requires.arc_rows.0.capacities_long)))
 
 pub returns : goal.returns
-returns c =
+returns c n s t =
     let args = c.args in
     look_behind (table_of n s t args.tails.now args.heads.now args.capacities.now) args.flow.now args.i args.k _ c.if-tail-i.false c.note-2.ensures

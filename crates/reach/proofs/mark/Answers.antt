@@ -21,5 +21,5 @@ mark_all-requires c =
     }
 
 pub returns : goal.returns
-returns c =
+returns c t =
     rw (c.mark_all.ensures t)

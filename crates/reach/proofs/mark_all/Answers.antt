@@ -1,6 +1,7 @@
--- `mark_all` meets its contract. The loop's invariant: each marked node is noted or done with. The measure: unmarked nodes twice, and the nodes noted.
-use Prim.Native.Nat.{ℕ, ◌+◌, ◌-◌, ◌<◌}
+-- `mark_all` meets its contract: each marked node is noted or done with, and unmarked nodes twice and the nodes noted fall.
+use Prim.Native.Nat.{ℕ, ◌-◌}
 use mathlib.Core.Path.{◌≡◌, refl, sym, ap, ◌∙◌, subst⁻¹}
+use mathlib.Core.List.{List}
 use native.Mathlib.Omega.{arith}
 use borrow.Author.Rules.{rules}
 use lib.ListN.{length, length-set, replicate}
@@ -9,35 +10,10 @@ use Rattle.table.specs.Table.{Table, table_of}
 use Rattle.arcs.specs.Residual.{list, Places}
 use Rattle.arcs.proofs.Members.{list_places}
 use Rattle.arcs.proofs.Work.{in_work_ends}
-use Rattle.reach.specs.Visits.{unmarked, Front, front}
+use Rattle.reach.specs.Visits.{Front, front}
 use Rattle.reach.proofs.Marking.{mark}
 use Rattle.reach.proofs.Visiting.{Visiting, Walkable, rows_walkable, rows_among, visit_start, next_node, visit_turn, visited_side}
 use Rattle.reach.proofs.mark_all.Goals as goal
-
--- The list that is handed to a visit is the node's, in the table with the sink t.
-own : (c : tie.After-node-list invariant_loop decreases_loop) (t : ℕ) →
-    let at = c.before.before.before in
-    c.node-list.result.now ≡ list (table at t) (at_place at.loop.todo (at.loop.count - 1))
-own c t =
-    let start = entry c.before.before.before t in
-    c.node-list.ensures (table c.before.before.before t) (in_work_ends start.pre.1.0.2 start.args.s t) refl refl
-
--- How many visits there can be still.
-abbrev left : Front → ℕ
-left f = unmarked f.marks + unmarked f.marks + f.count
-
--- A turn of the loop, in the table with the sink t.
-turn : (c : tie.After-slice-known6 invariant_loop decreases_loop) (t : ℕ) →
-    let at = c.before.before.before.before.before.before.before.before.before.before in
-    Visiting (table at t) (entry at t).args.flow.now 0 (after_turn c)
-    × (left (after_turn c) < left (front at.loop.side at.loop.todo at.loop.count))
-turn c t =
-    let called = c.before.before.before.before in
-    let listed = called.before.before.before in
-    let at = listed.before.before.before in
-    let start = entry at t in
-    visit_turn (table at t) start.args.flow.now (walkable at t) listed.before.before.loop-test.true (visiting at t)
-    listed.node-list.result.now (own listed t) (after_turn c) (called.visit.ensures start.args.n start.args.s t)
 
 pub only-requires : goal.only-requires
 only-requires c = omega (arith, c.requires.arc_rows.2, c.requires.side_len.0)
@@ -54,56 +30,70 @@ loop-count-init c = (
 
 pub offset_bounds-todo-count : goal.offset_bounds-todo-count
 offset_bounds-todo-count c =
-    let table : Table = table_of c.args.n c.args.s t c.args.tails.now c.args.heads.now c.args.capacities.now in
-    let visiting : Visiting table c.args.flow.now 0 (front c.loop-count.side c.loop-count.todo c.loop-count.count) = c.loop-count.invariant.1 t in
-    let room = (visiting 0).room in
-    let few = (§ 0).pre.0.0.ends.few_nodes in
+    let room = (c.loop-count.invariant.1 0).room in
+    let few = c.requires.arc_rows.0.ends.few_nodes in
     search rules
 
 pub bounds-todo-count : goal.bounds-todo-count
 bounds-todo-count c =
-    let table : Table = table_of c.args.n c.args.s t c.args.tails.now c.args.heads.now c.args.capacities.now in
-    let visiting : Visiting table c.args.flow.now 0 (front c.loop-count.side c.loop-count.todo c.loop-count.count) = c.loop-count.invariant.1 t in
-    let v = visiting 0 in
+    let v = c.loop-count.invariant.1 0 in
     omega (arith, v.room, v.long, c.loop-count-test.true)
 
 pub node_list-requires : goal.node_list-requires
 node_list-requires c =
-    let table : Table = table_of c.args.n c.args.s t c.args.tails.now c.args.heads.now c.args.capacities.now in
-    let walkable : Walkable table = rows_walkable c.requires.arc_rows.0 c.args.s t c.requires.arc_rows.2 in
-    let visiting : Visiting table c.args.flow.now 0 (front c.loop-count.side c.loop-count.todo c.loop-count.count) = c.loop-count.invariant.1 t in
-    let start = § 0 in
-    let held = start.pre.1.0 in
-    (table_of start.args.n held.0 held.1 start.args.tails.now start.args.heads.now start.args.capacities.now, held.2, refl, refl, next_node (table 0) start.args.flow.now (walkable 0) c.loop-count-test.true (visiting 0))
+    let a = c.args in
+    let held = c.requires.by_index in
+    let t : Table = table_of a.n a.s 0 a.tails.now a.heads.now a.capacities.now in
+    let walkable : Walkable t = rows_walkable c.requires.arc_rows.0 a.s 0 c.requires.arc_rows.2 in
+    (table_of a.n held.0 held.1 a.tails.now a.heads.now a.capacities.now, held.2, refl, refl, next_node t a.flow.now walkable c.loop-count-test.true (c.loop-count.invariant.1 0))
 
 pub visit-count-requires : goal.visit-count-requires
 visit-count-requires c =
-    let table : Table = table_of c.args.n c.args.s t c.args.tails.now c.args.heads.now c.args.capacities.now in
-    let visiting : Visiting table c.args.flow.now 0 (front c.loop-count.side c.loop-count.todo c.loop-count.count) = c.loop-count.invariant.1 t in
-    let start = § 0 in
-    let v = visiting 0 in record {
-      arc_rows = (rows_among start.pre.0.0 v.so.long, start.pre.0.1, subst⁻¹ (Places (length start.args.capacities.now)) (own § 0) (list_places (table 0) _));
+    let a = c.args in
+    let v = c.loop-count.invariant.1 0 in
+    let t : Table = table_of a.n a.s 0 a.tails.now a.heads.now a.capacities.now in
+    let own : c.node_list.result.now ≡ list t (at_place c.loop-count.todo (c.loop-count.count - 1)) =
+    c.node_list.ensures t (in_work_ends c.requires.by_index.2 a.s 0) refl refl in
+    record {
+      arc_rows = (rows_among c.requires.arc_rows.0 v.so.long, c.requires.arc_rows.1, subst⁻¹ (Places (length a.capacities.now)) own (list_places t _));
       count_in_bounds = omega (arith, v.room, v.long, c.loop-count-test.true);
     }
 
 pub loop-count-smaller : goal.loop-count-smaller
-loop-count-smaller c = (turn § 0).1
+loop-count-smaller c =
+    let a = c.args in
+    let t : Table = table_of a.n a.s 0 a.tails.now a.heads.now a.capacities.now in
+    let walkable : Walkable t = rows_walkable c.requires.arc_rows.0 a.s 0 c.requires.arc_rows.2 in
+    let own : c.node_list.result.now ≡ list t (at_place c.loop-count.todo (c.loop-count.count - 1)) =
+    c.node_list.ensures t (in_work_ends c.requires.by_index.2 a.s 0) refl refl in
+    (
+    visit_turn t a.flow.now walkable c.loop-count-test.true (c.loop-count.invariant.1 0) c.node_list.result.now own
+    (front c.visit-count.new.side c.visit-count.new.todo c.visit-count.result) (c.visit-count.ensures a.n a.s 0)
+    ).1
 
 pub loop-count-preserved : goal.loop-count-preserved
-loop-count-preserved c = (c.visit-count.auto.todo ∙ c.loop-count.invariant.0, λ t. (turn § t).0)
+loop-count-preserved c =
+    let a = c.args in (
+      c.visit-count.auto.todo ∙ c.loop-count.invariant.0,
+      λ k.
+          let t : Table = table_of a.n a.s k a.tails.now a.heads.now a.capacities.now in
+          let walkable : Walkable t = rows_walkable c.requires.arc_rows.0 a.s k c.requires.arc_rows.2 in
+          let own : c.node_list.result.now ≡ list t (at_place c.loop-count.todo (c.loop-count.count - 1)) =
+          c.node_list.ensures t (in_work_ends c.requires.by_index.2 a.s k) refl refl in
+          (
+          visit_turn t a.flow.now walkable c.loop-count-test.true (c.loop-count.invariant.1 k) c.node_list.result.now own
+          (front c.visit-count.new.side c.visit-count.new.todo c.visit-count.result) (c.visit-count.ensures a.n a.s k)
+          ).0,
+    )
 
 pub shape_of-todo : goal.shape_of-todo
 shape_of-todo c = c.loop-count.invariant.0 ∙ simp length-set
 
 pub shape_of-side : goal.shape_of-side
-shape_of-side c =
-    let table : Table = table_of c.args.n c.args.s t c.args.tails.now c.args.heads.now c.args.capacities.now in
-    let visiting : Visiting table c.args.flow.now 0 (front c.loop-count.side c.loop-count.todo c.loop-count.count) = c.loop-count.invariant.1 t in
-    (visiting 0).so.long ∙ sym (§ 0).pre.1.1.0
+shape_of-side c = (c.loop-count.invariant.1 0).so.long ∙ sym c.requires.side_len.0
 
 pub returns : goal.returns
-returns c =
-    let table : Table = table_of c.args.n c.args.s t c.args.tails.now c.args.heads.now c.args.capacities.now in
-    let walkable : Walkable table = rows_walkable c.requires.arc_rows.0 c.args.s t c.requires.arc_rows.2 in
-    let visiting : Visiting table c.args.flow.now 0 (front c.loop-count.side c.loop-count.todo c.loop-count.count) = c.loop-count.invariant.1 t in
-    visited_side (table t) (§ t).args.flow.now (walkable t) c.loop-count-test.false (visiting t)
+returns c t =
+    let a = c.args in
+    visited_side (table_of a.n a.s t a.tails.now a.heads.now a.capacities.now) a.flow.now (rows_walkable c.requires.arc_rows.0 a.s t c.requires.arc_rows.2)
+    c.loop-count-test.false (c.loop-count.invariant.1 t)

@@ -31,6 +31,6 @@ loop-p-preserved c =
     )
 
 pub returns : goal.returns
-returns c =
+returns c n s t =
     let inv = c.loop-p.invariant in
     rw (le_antisymm inv.0 c.loop-p-test.false) at (inv.2 n s t)

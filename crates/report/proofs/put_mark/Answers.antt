@@ -4,7 +4,7 @@ use borrow.Author.Tests.{eq-eqb, ne_eqb}
 use Rattle.report.proofs.put_mark.Goals as goal
 
 pub returns-then-mark-eq1 : goal.returns-then-mark-eq1
-returns-then-mark-eq1 c = 
+returns-then-mark-eq1 c =
     rw (eq-eqb c.args.mark 1 c.if-mark-eq1.true) c.put_further.ensures
 
 pub returns : goal.returns

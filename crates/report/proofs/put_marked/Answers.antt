@@ -13,7 +13,7 @@ pub put_mark-place-requires : goal.put_mark-place-requires
 put_mark-place-requires c = wrote_within c.loop-i.invariant.1.wrote
 
 pub loop-i-preserved : goal.loop-i-preserved
-loop-i-preserved c = 
+loop-i-preserved c =
     let side = c.args.side.now in
     (omega arith, partly_more c.loop-i.invariant.1 c.put_mark-place.ensures (rw c.either-some.ensures (marked_here c.loop-i.some side c.loop-i.i (omega arith))))
 
@@ -21,5 +21,5 @@ pub shape_of-out : goal.shape_of-out
 shape_of-out c = wrote_length c.loop-i.invariant.1.wrote
 
 pub returns : goal.returns
-returns c = 
+returns c =
     partly_all (marked_end c.loop-i.some c.args.side.now c.loop-i.i c.loop-i-test.false) c.loop-i.invariant.1

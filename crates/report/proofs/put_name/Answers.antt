@@ -15,11 +15,11 @@ overflow_sub-cell c = omega (arith, c.number.ensures, number_known c.args.name)
 
 pub word-requires : goal.word-requires
 word-requires c =
-        omega (arith, c.number.ensures, number_known c.args.name)
+    omega (arith, c.number.ensures, number_known c.args.name)
 
 pub returns : goal.returns
 returns c =
-                let called = c.args in
+    let called = c.args in
     subst (λ (text : List ℕ). Wrote called.out.now called.at text c.put_bytes.new.out c.put_bytes.result)
     (c.word.ensures ∙ (ap (λ (k : ℕ). word_of (drop (11 * (k - 1)) line)) c.number.ensures ∙ name_word called.name))
     c.put_bytes.ensures

@@ -6,7 +6,7 @@ use Rattle.report.proofs.put_number_lines.Goals as goal
 pub returns : goal.returns
 unfolding number_lines
 returns c =
-                                    wrote_then c.put_line-arcs.ensures
+    wrote_then c.put_line-arcs.ensures
     (wrote_then c.put_line-value.ensures
     (wrote_then c.put_signed_line-scale.ensures
     (wrote_then c.put_line-phases.ensures

@@ -11,10 +11,10 @@ use Rattle.report.proofs.word.Goals as goal
 
 pub slice_bounds-result-end : goal.slice_bounds-result-end
 slice_bounds-result-end c =
-        omega (arith, c.find-end.ensures, run_within (λ b. not (eqb b 32)) c.args.line.now c.args.from c.requires)
+    omega (arith, c.find-end.ensures, run_within (λ b. not (eqb b 32)) c.args.line.now c.args.from c.requires)
 
 pub returns : goal.returns
 returns c =
-        let given = c.args in
+    let given = c.args in
     let long : c.find-end.result - given.from ≡ up_to 32 (drop given.from given.line.now) = omega (arith, c.find-end.ensures) in
     ap (λ k. take k (drop given.from given.line.now)) long

@@ -10,8 +10,8 @@ use Rattle.shorter.proofs.copy_shorter.Goals as goal
 pub copy_part-requires : goal.copy_part-requires
 copy_part-requires c =
     let given = c.args in
-    let first : given.in-first < 4294967296 = search rules in
-    let second : given.in-second < 4294967296 = search rules in
+    let first : given.in_first < 4294967296 = search rules in
+    let second : given.in_second < 4294967296 = search rules in
     subst⁻¹ (λ l. length l < 4294967296) c.shorter-numbers.ensures (shorter_few _ _ _ _ 4294967296 first second)
 
 pub returns : goal.returns

@@ -12,7 +12,7 @@ returns-then-flow-capacities c =
 
 pub lines_length-requires : goal.lines_length-requires
 lines_length-requires c =
-        record { few = c.requires.0.few; heads_long = c.requires.0.heads_long; room = omega (arith, c.requires.1, c.if-flow-capacities.false) }
+    record { few = c.requires.0.few; heads_long = c.requires.0.heads_long; room = omega (arith, c.requires.1, c.if-flow-capacities.false) }
 
 pub returns : goal.returns
 returns c =

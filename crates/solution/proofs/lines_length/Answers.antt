@@ -9,7 +9,7 @@ pub overflow_add-length : goal.overflow_add-length
 overflow_add-length c = omega (arith, c.line_length-length.ensures.1)
 
 pub loop-place-preserved : goal.loop-place-preserved
-loop-place-preserved c = 
+loop-place-preserved c =
     let a = c.args in (
       omega arith,
       omega (arith, c.line_length-length.ensures.1),
@@ -17,6 +17,6 @@ loop-place-preserved c =
     )
 
 pub returns : goal.returns
-returns c = 
+returns c =
     let a = c.args in
     omega (arith, c.loop-place.invariant.2, ap length (lines_end a.tails.now a.heads.now a.flow.now c.loop-place.place c.loop-place-test.false))

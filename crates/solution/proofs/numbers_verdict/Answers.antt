@@ -10,10 +10,10 @@ returns-then-not-is_fine c =
 
 pub returns-then-value-gt4096000000 : goal.returns-then-value-gt4096000000
 returns-then-value-gt4096000000 c =
-        let a = c.args in
+    let a = c.args in
     numbers_value a.capacities.now a.value a.flow.now c.first_above-above.ensures (sym c.is_fine.ensures ∙ c.if-not-is_fine.false) c.if-value-gt4096000000.true
 
 pub returns : goal.returns
 returns c =
-        let a = c.args in
+    let a = c.args in
     numbers_fine a.capacities.now a.value a.flow.now c.first_above-above.ensures (sym c.is_fine.ensures ∙ c.if-not-is_fine.false) c.if-value-gt4096000000.false

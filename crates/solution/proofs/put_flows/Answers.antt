@@ -11,7 +11,7 @@ pub put_flow-end-requires : goal.put_flow-end-requires
 put_flow-end-requires c = wrote_within c.loop-place.invariant.1.wrote
 
 pub loop-place-preserved : goal.loop-place-preserved
-loop-place-preserved c = 
+loop-place-preserved c =
     let a = c.args in
     (omega arith, partly_more c.loop-place.invariant.1 c.put_flow-end.ensures (lines_here a.tails.now a.heads.now a.flow.now c.loop-place.place (omega arith) (omega arith) (omega arith)))
 
@@ -19,6 +19,6 @@ pub shape_of-out : goal.shape_of-out
 shape_of-out c = wrote_length c.loop-place.invariant.1.wrote
 
 pub returns : goal.returns
-returns c = 
+returns c =
     let a = c.args in
     partly_all (lines_end a.tails.now a.heads.now a.flow.now c.loop-place.place c.loop-place-test.false) c.loop-place.invariant.1

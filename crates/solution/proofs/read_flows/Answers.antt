@@ -10,19 +10,19 @@ pub loop-place-init : goal.loop-place-init
 loop-place-init c = (omega arith, omega arith, refl, say_none _)
 
 pub returns-then-text-end : goal.returns-then-text-end
-returns-then-text-end c = 
+returns-then-text-end c =
     let a = c.args in
     c.loop-place.invariant.3 ∙ say_stop a.tails.now a.heads.now a.capacities.now c.loop-place.row c.loop-place.place (c.loop-place.place + 2) a.text.now c.loop-place.at c.find-end.result c.find-end.ensures (omega arith) (omega arith) (omega arith)
     (number_open a.text.now c.loop-place.at c.find-end.result c.find-end.ensures _ _ c.if-text-end.true c.loop-place.invariant.1)
 
 pub returns-in_default : goal.returns-in_default
-returns-in_default c = 
+returns-in_default c =
     let a = c.args in
     c.loop-place.invariant.3 ∙ say_stop a.tails.now a.heads.now a.capacities.now c.loop-place.row c.loop-place.place (c.loop-place.place + 2) a.text.now c.loop-place.at c.find-end.result c.find-end.ensures (omega arith) (omega arith) (omega arith)
     (number_here a.text.now c.loop-place.at c.find-end.result c.find-end.ensures _ _ c.if-text-end.false ∙ sym c.flow_said-said.ensures ∙ c.in_default.is)
 
 pub loop-place-preserved : goal.loop-place-preserved
-loop-place-preserved c = 
+loop-place-preserved c =
     let a = c.args in
     let line : c.loop-place.place + 2 + 1 ≡ c.loop-place.place + 1 + 2 = omega arith in (
       omega arith,
@@ -33,12 +33,12 @@ loop-place-preserved c =
     )
 
 pub returns-then-at-text : goal.returns-then-at-text
-returns-then-at-text c = 
+returns-then-at-text c =
     let a = c.args in
     c.loop-place.invariant.3 ∙ say_more a.tails.now a.heads.now a.capacities.now c.loop-place.row (c.loop-place.place + 2) a.text.now c.loop-place.at c.loop-place.place c.loop-place-test.false c.if-at-text.true
 
 pub returns : goal.returns
-returns c = 
+returns c =
     let a = c.args in
     let all : c.loop-place.place ≡ length a.tails.now = omega arith in
     c.loop-place.invariant.3 ∙ say_end a.tails.now a.heads.now a.capacities.now c.loop-place.row (c.loop-place.place + 2) a.text.now c.loop-place.at c.loop-place.place c.loop-place-test.false c.if-at-text.false ∙ rw all refl

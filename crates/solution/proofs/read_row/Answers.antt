@@ -11,7 +11,7 @@ slice_bounds-store-end c = sym (length-take-le _ _ (omega arith))
 
 pub store-requires : goal.store-requires
 store-requires c =
-        flows_fit (length c.args.tails.now) _ c.args.flow.now c.requires.1.room
+    flows_fit (length c.args.tails.now) _ c.args.flow.now c.requires.1.room
 
 pub returns-in-Stop : goal.returns-in-Stop
 returns-in-Stop c = let a = c.args in
@@ -19,5 +19,5 @@ returns-in-Stop c = let a = c.args in
 
 pub returns-in-All : goal.returns-in-All
 returns-in-All c =
-            let a = c.args in
+    let a = c.args in
     found_all _ _ _ _ c.read_flows.ensures a.value a.flow.now c.wide.result _ c.in-All.is (omega arith) (omega arith) c.wide.ensures.0 c.store.ensures

@@ -11,7 +11,7 @@ loop-i-init c = (search rules, omega arith)
 
 pub loop-i-preserved : goal.loop-i-preserved
 loop-i-preserved c =
-        let here = largest_on c.args.row.now c.loop-i.i c.loop-i-test.true in
+    let here = largest_on c.args.row.now c.loop-i.i c.loop-i-test.true in
     (omega arith, ⊎_elim (λ w. omega arith) (λ w. omega arith) c.if-most-x.branch)
 
 pub returns : goal.returns

@@ -17,11 +17,11 @@ loop-power-smaller c = let small = power_below c.loop-power.j 32 (omega arith) i
 
 pub loop-power-preserved : goal.loop-power-preserved
 loop-power-preserved c =
-        let small = power_below c.loop-power.j 32 (omega arith) in
+    let small = power_below c.loop-power.j 32 (omega arith) in
     (omega arith, omega (arith, power_on c.loop-power.j), c.loop-power.invariant.2 ∙ doublings_on c.args.x c.loop-power.j (omega arith) small)
 
 pub returns : goal.returns
 returns c =
-        let x = c.args.x in
+    let x = c.args.x in
     let ended = doublings_end x (32 - c.loop-power.j) c.loop-power.j (omega arith) in
     (omega (arith, phases_some x c.if-x-eq0.false), omega arith)

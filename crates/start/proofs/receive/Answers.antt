@@ -8,4 +8,4 @@ returns-then-j-t c = rw (eq-eqb _ _ c.if-j-t.true)
 
 pub returns : goal.returns
 returns c =
-        rw (ne_eqb _ _ c.if-j-t.false) (c.set_node.ensures ∙ rw c.at_node-held.ensures)
+    rw (ne_eqb _ _ c.if-j-t.false) (c.set_node.ensures ∙ rw c.at_node-held.ensures)

@@ -17,7 +17,7 @@ use Rattle.start.proofs.start_excess.Goals as goal
 
 pub loop-k-init : goal.loop-k-init
 loop-k-init c =
-        let given = c.args in
+    let given = c.args in
     let n = length given.excess.now in
     let zeros : c.clear.new.row ≡ replicate n 0 = cleared_whole c.clear.new.row given.excess.now n refl c.clear.ensures in
     let same : length c.clear.new.row ≡ n = c.clear.auto.row in (
@@ -30,7 +30,7 @@ loop-k-init c =
 
 pub receive-requires : goal.receive-requires
 receive-requires c =
-            let k = c.loop-k.k in
+    let k = c.loop-k.k in
     let kept = c.clear.auto.row in
     let node = c.requires.ends.head_node k (omega (arith, c.requires.capacities_long)) in
     let j = at_place c.args.heads.now k in
@@ -40,7 +40,7 @@ receive-requires c =
 
 pub loop-k-preserved : goal.loop-k-preserved
 loop-k-preserved c =
-            let given = c.args in
+    let given = c.args in
     let k = c.loop-k.k in
     let kept = c.clear.auto.row in
     let more = c.loop-k-test.true in
@@ -67,6 +67,6 @@ shape_of-excess c = c.loop-k.invariant.2 ∙ c.clear.auto.row
 
 pub returns : goal.returns
 returns c =
-            let kept = c.clear.auto.row in
+    let kept = c.clear.auto.row in
     let all : c.loop-k.k ≡ length c.args.capacities.now = omega arith in
     c.loop-k.invariant.1 ∙ rw (all, kept) (row_last _)

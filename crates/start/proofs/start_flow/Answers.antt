@@ -18,7 +18,7 @@ loop-k-init c = (search rules, fill_none _ _, refl)
 
 pub loop-k-preserved : goal.loop-k-preserved
 loop-k-preserved c =
-        let given = c.args in
+    let given = c.args in
     let k = c.loop-k.k in
     let fills : (x : ℕ) → x ≡ start_flow_at (table_of 0 given.s 0 given.tails.now [] given.capacities.now) k
     → set c.loop-k.flow k x ≡ by_place (start_flow_at (table_of 0 given.s 0 given.tails.now [] given.capacities.now)) (k + 1) ++ drop (k + 1) given.flow.now
@@ -36,6 +36,6 @@ shape_of-flow c = c.loop-k.invariant.2
 
 pub returns : goal.returns
 unfolding start_flow
-returns c =
-        let all : c.loop-k.k ≡ length c.args.capacities.now = omega arith in
+returns c n t heads =
+    let all : c.loop-k.k ≡ length c.args.capacities.now = omega arith in
     rw (← all) c.loop-k.invariant.1

@@ -14,7 +14,7 @@ loop-i-init c = (search rules, refl, fill_none _ _, refl)
 
 pub loop-i-preserved : goal.loop-i-preserved
 loop-i-preserved c =
-        let given = c.args in (
+    let given = c.args in (
       omega arith,
       refl,
       ap (λ (l : List ℕ). set l c.loop-i.i c.start_label.result) c.loop-i.invariant.2
@@ -26,7 +26,7 @@ pub shape_of-labels : goal.shape_of-labels
 shape_of-labels c = c.loop-i.invariant.3
 
 pub returns : goal.returns
-returns c =
-        let given = c.args in
+returns c tails heads capacities =
+    let given = c.args in
     let all : c.loop-i.i ≡ length given.labels.now = omega arith in
     c.loop-i.invariant.2 ∙ fill_all _ c.loop-i.i given.labels.now (omega arith) ∙ rw all

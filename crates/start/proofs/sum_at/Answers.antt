@@ -15,7 +15,7 @@ loop-k-init c = (search rules, refl, search rules)
 
 pub loop-k-preserved : goal.loop-k-preserved
 loop-k-preserved c =
-        let given = c.args in (
+    let given = c.args in (
       omega arith,
       ⊎_elim
           (λ w. omega (arith, w.2.ensures.0, w.3, sum_on given.ends.now given.flow.now given.i c.loop-k.k w.0.taken))
@@ -26,5 +26,5 @@ loop-k-preserved c =
 
 pub returns : goal.returns
 returns c =
-        let all : c.loop-k.k ≡ length c.args.ends.now = omega arith in
+    let all : c.loop-k.k ≡ length c.args.ends.now = omega arith in
     rw (← all) c.loop-k.invariant.1

@@ -3,5 +3,5 @@ use Rattle.start.proofs.Scaling.{value_is}
 use Rattle.start.proofs.value.Goals as goal
 
 pub returns : goal.returns
-returns c =
-        rw (c.sum_at-2.ensures, c.sum_at.ensures) (value_is n c.args.s t c.args.tails.now c.args.heads.now capacities c.args.flow.now e c.requires.heads_len.0)
+returns c n t capacities e =
+    rw (c.sum_at-2.ensures, c.sum_at.ensures) (value_is n c.args.s t c.args.tails.now c.args.heads.now capacities c.args.flow.now e c.requires.heads_len.0)

@@ -6,7 +6,7 @@ use Rattle.steps.proofs.amount.Goals as goal
 
 pub overflow_sub-delta : goal.overflow_sub-delta
 overflow_sub-delta c =
-            omega (arith, c.requires.node.2 (c.args.j - 1) (omega (arith, c.requires.node.1)), node_at c.args.excess.now c.args.j c.requires.node.1.0)
+    omega (arith, c.requires.node.2 (c.args.j - 1) (omega (arith, c.requires.node.1)), node_at c.args.excess.now c.args.j c.requires.node.1.0)
 
 pub returns : goal.returns
-returns c = cc (is, c.residual.ensures n s t heads)
+returns c n s t heads label is = cc (is, c.residual.ensures n s t heads)

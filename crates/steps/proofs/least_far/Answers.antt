@@ -18,7 +18,7 @@ loop-j-init c = (search rules, omega arith, search rules, λ n s t heads excess 
 
 pub lesser-label-requires : goal.lesser-label-requires
 lesser-label-requires c =
-                let below = c.requires.beside.0.place_below c.loop-j.j c.loop-j-test.true in record {
+    let below = c.requires.beside.0.place_below c.loop-j.j c.loop-j-test.true in record {
       k_in_bounds = (omega (arith, below, c.requires.tails_len.0), below, c.requires.tails_len.1);
       node = c.requires.beside.0.end_node c.loop-j.j c.loop-j-test.true;
     }

@@ -10,7 +10,7 @@ use Rattle.steps.proofs.lesser.Goals as goal
 
 pub returns-then-best-label : goal.returns-then-best-label
 returns-then-best-label c =
-        let given = c.args in record {
+    let given = c.args in record {
       by_index = λ n s t heads excess is. lesser_high (table_of n s t given.tails.now heads given.capacities.now) (state_of given.flow.now excess given.labels.now) given.i given.k
           c.at_node-label.result (c.at_node-label.ensures ∙ ap (at_node given.labels.now) is)
           given.best c.if-best-label.true;
@@ -19,7 +19,7 @@ returns-then-best-label c =
 
 pub returns-then-left-eq0 : goal.returns-then-left-eq0
 returns-then-left-eq0 c =
-        let given = c.args in record {
+    let given = c.args in record {
       by_index = λ n s t heads excess is. lesser_none (table_of n s t given.tails.now heads given.capacities.now) (state_of given.flow.now excess given.labels.now) given.i given.k
           c.at_node-label.result (c.at_node-label.ensures ∙ ap (at_node given.labels.now) is)
           given.best c.residual-left.result (c.residual-left.ensures n s t heads) c.if-left-eq0.true;
@@ -28,7 +28,7 @@ returns-then-left-eq0 c =
 
 pub returns : goal.returns
 returns c =
-        let given = c.args in record {
+    let given = c.args in record {
       by_index = λ n s t heads excess is. lesser_some (table_of n s t given.tails.now heads given.capacities.now) (state_of given.flow.now excess given.labels.now) given.i given.k
           c.at_node-label.result (c.at_node-label.ensures ∙ ap (at_node given.labels.now) is)
           given.best c.residual-left.result (c.residual-left.ensures n s t heads) c.if-left-eq0.false c.if-best-label.false;

@@ -15,13 +15,13 @@ loop-j-init c = (omega arith, refl, λ q l. refl, λ n s t capacities q l. absur
 
 pub far-requires : goal.far-requires
 far-requires c = record {
-      by_index = c.requires.by_index;
-      k_in_bounds = c.requires.all_touch.0 c.loop-j.j c.loop-j-test.true;
-    }
+  by_index = c.requires.by_index;
+  k_in_bounds = c.requires.all_touch.0 c.loop-j.j c.loop-j-test.true;
+}
 
 pub loop-j-preserved : goal.loop-j-preserved
 loop-j-preserved c =
-        let given = c.args in
+    let given = c.args in
     let here = given.p + c.loop-j.j in
     let room : here < length c.loop-j.ends = omega (arith, c.loop-j-test.true, c.loop-j.invariant.1, c.requires.all_touch.1) in (
       omega arith,
@@ -38,6 +38,6 @@ shape_of-ends c = c.loop-j.invariant.1
 
 pub returns : goal.returns
 returns c = record {
-      value = (omega (arith, c.loop-j.invariant.0, c.loop-j-test.false), c.loop-j.invariant.2);
-      by_index_2 = λ n s t capacities j l. c.loop-j.invariant.3 n s t capacities j (omega (arith, c.loop-j-test.false));
-    }
+  value = (omega (arith, c.loop-j.invariant.0, c.loop-j-test.false), c.loop-j.invariant.2);
+  by_index_2 = λ n s t capacities j l. c.loop-j.invariant.3 n s t capacities j (omega (arith, c.loop-j-test.false));
+}

@@ -9,7 +9,7 @@ pub overflow_sub-flow : goal.overflow_sub-flow
 overflow_sub-flow c = c.requires.d_bound_2 c.if-tail-i.false
 
 pub returns-then-tail-i : goal.returns-then-tail-i
-returns-then-tail-i c = rw (eq-eqb _ _ c.if-tail-i.true)
+returns-then-tail-i c n s t heads capacities = rw (eq-eqb _ _ c.if-tail-i.true)
 
 pub returns-else-tail-i : goal.returns-else-tail-i
-returns-else-tail-i c = rw (ne_eqb _ _ c.if-tail-i.false)
+returns-else-tail-i c n s t heads capacities = rw (ne_eqb _ _ c.if-tail-i.false)

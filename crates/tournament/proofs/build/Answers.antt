@@ -4,7 +4,7 @@ use Rattle.tournament.proofs.build.Goals as goal
 
 pub returns : goal.returns
 returns c =
-                record {
+    record {
       size = c.join.auto.tree ∙ c.plant.auto.tree ∙ c.requires.tree_len.0;
       leaves = λ j h. c.join.ensures.by_index_2 j ∙ c.plant.ensures j h;
       inner = c.join.ensures.by_index;

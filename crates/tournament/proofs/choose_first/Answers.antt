@@ -6,8 +6,8 @@ use Rattle.tournament.proofs.choose_first.Goals as goal
 
 pub returns : goal.returns
 returns c =
-                let given = c.args in
-            chose_picked given.labels.now c.requires.labels_len_bound.0 c.requires.labels_len_bound.1 given.delta given.excess.now c.build.new.tree c.choose_by.result (
+    let given = c.args in
+    chose_picked given.labels.now c.requires.labels_len_bound.0 c.requires.labels_len_bound.1 given.delta given.excess.now c.build.new.tree c.choose_by.result (
       c.root.result,
       c.root.ensures (length given.labels.now) (key given.delta given.excess.now given.labels.now) c.requires.labels_len_bound.0
           (own_keys given.labels.now c.requires.labels_len_bound.0 c.requires.labels_len_bound.1 given.delta given.excess.now) c.build.ensures,

@@ -13,7 +13,7 @@ settle-requires c = (omega arith, c.loop-p.invariant.2)
 
 pub loop-p-preserved : goal.loop-p-preserved
 loop-p-preserved c =
-            let more = c.loop-p-test.true in (
+    let more = c.loop-p-test.true in (
       omega arith,
       omega arith,
       c.settle.auto.tree ∙ c.loop-p.invariant.2,
@@ -26,6 +26,6 @@ shape_of-tree c = c.loop-p.invariant.2 ∙ sym c.requires
 
 pub returns : goal.returns
 returns c = record {
-      by_index = λ p one up. c.loop-p.invariant.3 p (omega arith) up;
-      by_index_2 = c.loop-p.invariant.4;
-    }
+  by_index = λ p one up. c.loop-p.invariant.3 p (omega arith) up;
+  by_index_2 = c.loop-p.invariant.4;
+}

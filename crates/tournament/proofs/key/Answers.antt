@@ -6,12 +6,12 @@ use Rattle.tournament.proofs.key.Goals as goal
 
 pub overflow_mul-result : goal.overflow_mul-result
 overflow_mul-result c =
-        let low = c.requires.labels_len_bound.1 c.args.i c.requires.node.1 in
+    let low = c.requires.labels_len_bound.1 c.args.i c.requires.node.1 in
     record { fits = omega (arith, c.at_node-then-delta-held.ensures) }
 
 pub overflow_add-result : goal.overflow_add-result
 overflow_add-result c =
-        let low = c.requires.labels_len_bound.1 c.args.i c.requires.node.1 in
+    let low = c.requires.labels_len_bound.1 c.args.i c.requires.node.1 in
     record { fits = omega (arith, c.at_node-then-delta-held.ensures) }
 
 pub returns-then-delta-held : goal.returns-then-delta-held

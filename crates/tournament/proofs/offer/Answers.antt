@@ -4,13 +4,12 @@ use native.Mathlib.Omega.{arith}
 use Rattle.tournament.proofs.offer.Goals as goal
 
 pub returns-then-x-least : goal.returns-then-x-least
-returns-then-x-least c =
-    (
-      c.args.x,
-      least_but n keys c.args.tree.now own few c.args.i c.args.x node is (omega (arith, c.if-x-least.true, c.least.ensures)) but,
-      names n keys own c.args.i c.args.x node is (omega (arith, c.if-x-least.true, c.least.ensures)),
-    )
+returns-then-x-least c n keys few own node is but = (
+  c.args.x,
+  least_but n keys c.args.tree.now own few c.args.i c.args.x node is (omega (arith, c.if-x-least.true, c.least.ensures)) but,
+  names n keys own c.args.i c.args.x node is (omega (arith, c.if-x-least.true, c.least.ensures)),
+)
 
 pub returns : goal.returns
-returns c =
-        (c.root.result, c.root.ensures n keys few own (c.stand.ensures n keys few node is but), c.choose_by.ensures)
+returns c n keys few own node is but =
+    (c.root.result, c.root.ensures n keys few own (c.stand.ensures n keys few node is but), c.choose_by.ensures)

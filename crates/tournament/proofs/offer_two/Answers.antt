@@ -4,13 +4,13 @@ use Rattle.tournament.proofs.Standing.{rekeyed_other, apart}
 use Rattle.tournament.proofs.offer_two.Goals as goal
 
 pub returns-then-y-x : goal.returns-then-y-x
-returns-then-y-x c =
-                let given = c.args in
+returns-then-y-x c n keys few own at_i at_j is js but =
+    let given = c.args in
     let two = apart keys given.i given.j given.x given.y is js c.if-y-x.true in
     c.offer.ensures n keys few own at_j js
     (none, c.stand.ensures n (without keys given.j) few at_i (rekeyed_other keys given.i given.j given.x none two is) but)
 
 pub returns : goal.returns
-returns c =
-            let given = c.args in
+returns c n keys few own at_i at_j is js but =
+    let given = c.args in
     c.offer-2.ensures n keys few own at_i is (c.enter.ensures n keys given.i few own at_i at_j is js c.if-y-x.false but)

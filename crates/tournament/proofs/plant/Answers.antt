@@ -12,7 +12,7 @@ loop-j-init c = (omega arith, c.requires.tree_len.0, λ i h. absurd (omega arith
 
 pub loop-j-preserved : goal.loop-j-preserved
 loop-j-preserved c =
-        let given = c.args in (
+    let given = c.args in (
       omega arith,
       length-set c.loop-j.tree (512 + c.loop-j.j) c.leaf.result ∙ c.loop-j.invariant.1,
       plant_on (length given.labels.now) (key given.delta given.excess.now given.labels.now) c.loop-j.tree _ c.loop-j.j c.leaf.result c.loop-j.invariant.1 c.loop-j-test.true c.leaf.ensures refl c.loop-j.invariant.2,

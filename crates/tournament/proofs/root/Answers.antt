@@ -3,4 +3,4 @@ use Rattle.tournament.proofs.Roots.{root_is_least}
 use Rattle.tournament.proofs.root.Goals as goal
 
 pub returns : goal.returns
-returns c = root_is_least n keys c.args.tree.now few t own
+returns c n keys few own t = root_is_least n keys c.args.tree.now few t own

@@ -17,12 +17,12 @@ loop-level-init c = (omega arith, omega arith, omega arith, search rules, λ n k
 
 pub climb-best-requires : goal.climb-best-requires
 climb-best-requires c =
-        let size = wider c.loop-level.level (c.loop-level.level - 1) (omega arith) in
+    let size = wider c.loop-level.level (c.loop-level.level - 1) (omega arith) in
     (omega (arith, size), c.loop-level.invariant.0, c.loop-level.invariant.3)
 
 pub loop-level-preserved : goal.loop-level-preserved
 loop-level-preserved c =
-            let size = wider c.loop-level.level (c.loop-level.level - 1) (omega arith) in (
+    let size = wider c.loop-level.level (c.loop-level.level - 1) (omega arith) in (
       omega arith,
       omega (arith, size),
       omega (arith, size),
@@ -35,6 +35,6 @@ shape_of-tree c = c.loop-level.invariant.3 ∙ sym c.requires.0
 
 pub returns : goal.returns
 returns c =
-            let top : c.loop-level.level ≡ 0 = omega arith in
+    let top : c.loop-level.level ≡ 0 = omega arith in
     λ n keys up few t. mend_last n _ c.loop-level.tree c.loop-level.p c.loop-level.best (omega (arith, ap (λ (level : ℕ). 2 ^ level) top))
     (c.loop-level.invariant.4 n _ (mend_first n keys c.args.tree.now _ c.args.i c.args.x c.requires.1.0 up few t refl))

@@ -10,11 +10,11 @@ loop-k-init c = (search rules, remaining_from _ _ _ c.requires.left_len.1 c.requ
 
 pub returns-then-left-k-gt0 : goal.returns-then-left-k-gt0
 returns-then-left-k-gt0 c =
-        search_found _ _ _ _ c.loop-k.invariant.1 c.loop-k-test.true (lt-ltb _ _ c.if-left-k-gt0.true)
+    search_found _ _ _ _ c.loop-k.invariant.1 c.loop-k-test.true (lt-ltb _ _ c.if-left-k-gt0.true)
 
 pub loop-k-preserved : goal.loop-k-preserved
 loop-k-preserved c =
-        (search rules, search_on _ _ _ _ c.loop-k.invariant.1 c.loop-k-test.true (le-ltb _ _ c.if-left-k-gt0.false))
+    (search rules, search_on _ _ _ _ c.loop-k.invariant.1 c.loop-k-test.true (le-ltb _ _ c.if-left-k-gt0.false))
 
 pub returns : goal.returns
 returns c = search_end _ _ _ _ c.loop-k.invariant.1 c.loop-k-test.false

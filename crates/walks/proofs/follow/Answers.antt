@@ -12,19 +12,19 @@ use Rattle.walks.proofs.follow.Goals as goal
 
 pub loop-count-init : goal.loop-count-init
 loop-count-init c =
-        (refl, refl, refl, c.requires.ready.ahead, under_starts _ _ _ _ _ _ _ _ c.requires.nodes_in_bounds.0 c.requires.nodes_in_bounds.1 c.requires.nodes_in_bounds.2)
+    (refl, refl, refl, c.requires.ready.ahead, under_starts _ _ _ _ _ _ _ _ c.requires.nodes_in_bounds.0 c.requires.nodes_in_bounds.1 c.requires.nodes_in_bounds.2)
 
 pub leave-k-requires : goal.leave-k-requires
 leave-k-requires c = record {
-      left_len = (c.requires.ready.left_long, c.requires.ready.ends.few_arcs);
-      node = (omega (arith, c.loop-count.invariant.4.rows.node, c.loop-count.invariant.0, c.requires.ready.first_long), c.loop-count.invariant.3);
-    }
+  left_len = (c.requires.ready.left_long, c.requires.ready.ends.few_arcs);
+  node = (omega (arith, c.loop-count.invariant.4.rows.node, c.loop-count.invariant.0, c.requires.ready.first_long), c.loop-count.invariant.3);
+}
 
 pub returns-then-tails-k : goal.returns-then-tails-k
 returns-then-tails-k c = record {
-      fact = under_stuck _ _ _ _ _ _ _ _ _ _ c.loop-count.invariant.4 _ c.leave-k.ensures.value c.if-tails-k.true;
-      ahead = c.leave-k.ensures.ahead;
-    }
+  fact = under_stuck _ _ _ _ _ _ _ _ _ _ c.loop-count.invariant.4 _ c.leave-k.ensures.value c.if-tails-k.true;
+  ahead = c.leave-k.ensures.ahead;
+}
 
 pub overflow_cast-walked : goal.overflow_cast-walked
 overflow_cast-walked c = omega (arith, c.requires.ready.ends.few_arcs)
@@ -89,8 +89,7 @@ loop-count-preserved c =
     let place : ℕ = c.leave-k.result in
     let sought : Found = walk c.args.tails.now c.args.heads.now c.args.sink c.args.left.now c.args.nodes [] c.args.start in
     let came : Came c.args.tails.now c.args.heads.now c.args.left.now c.args.sink c.args.nodes sought (set c.loop-count.walked c.loop-count.count place) c.set_node.new.row (get_or c.args.heads.now place 0) (c.loop-count.count + 1) = under_came _ _ _ _ _ _ _ _ _ _ c.loop-count.invariant.4 c.requires.ready.ends c.loop-count-test.true place c.leave-k.ensures.value c.if-tails-k.false _ c.set_node.ensures in
-    let gone : Ahead c.args.tails.now c.args.left.now c.leave-k.new.first = c.leave-k.ensures.ahead in
-    (
+    let gone : Ahead c.args.tails.now c.args.left.now c.leave-k.new.first = c.leave-k.ensures.ahead in (
       c.leave-k.auto.first ∙ c.loop-count.invariant.0,
       simp length-set c.loop-count.invariant.1,
       c.set_node.auto.row ∙ c.loop-count.invariant.2,
@@ -100,6 +99,6 @@ loop-count-preserved c =
 
 pub returns : goal.returns
 returns c = record {
-      fact = under_out _ _ _ _ _ _ _ _ _ _ c.loop-count.invariant.4 c.loop-count-test.false;
-      ahead = c.loop-count.invariant.3;
-    }
+  fact = under_out _ _ _ _ _ _ _ _ _ _ c.loop-count.invariant.4 c.loop-count-test.false;
+  ahead = c.loop-count.invariant.3;
+}

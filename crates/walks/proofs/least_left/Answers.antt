@@ -27,18 +27,17 @@ overflow_cast-k c = omega (arith, c.type_inv.places c.loop-q.q)
 
 pub offset_bounds-left-k : goal.offset_bounds-left-k
 offset_bounds-left-k c =
-            omega (arith, c.type_inv.places c.loop-q.q, c.requires c.loop-q.q c.loop-q-test.true)
+    omega (arith, c.type_inv.places c.loop-q.q, c.requires c.loop-q.q c.loop-q-test.true)
 
 pub bounds-left-k : goal.bounds-left-k
 bounds-left-k c =
-            c.requires c.loop-q.q c.loop-q-test.true
+    c.requires c.loop-q.q c.loop-q-test.true
 
 pub loop-q-preserved : goal.loop-q-preserved
-loop-q-preserved c =
-    (
-      search rules,
-      c.loop-q.invariant.1 ∙ least_turn _ _ _ _ c.loop-q-test.true ∙ ap (least_of _ _) (sym c.smaller-so.ensures),
-    )
+loop-q-preserved c = (
+  search rules,
+  c.loop-q.invariant.1 ∙ least_turn _ _ _ _ c.loop-q-test.true ∙ ap (least_of _ _) (sym c.smaller-so.ensures),
+)
 
 pub returns : goal.returns
 returns c = sym (c.loop-q.invariant.1 ∙ least_done _ _ _ _ c.loop-q-test.false)

@@ -11,11 +11,11 @@ loop-k-init c = (search rules, onward_from _ _ _ _ c.requires.left_len.1 c.requi
 
 pub returns-then-leads_on : goal.returns-then-leads_on
 returns-then-leads_on c =
-        search_found _ _ _ _ c.loop-k.invariant.1 c.loop-k-test.true (sym c.leads_on.ensures ∙ c.if-leads_on.true)
+    search_found _ _ _ _ c.loop-k.invariant.1 c.loop-k-test.true (sym c.leads_on.ensures ∙ c.if-leads_on.true)
 
 pub loop-k-preserved : goal.loop-k-preserved
 loop-k-preserved c =
-        (search rules, search_on _ _ _ _ c.loop-k.invariant.1 c.loop-k-test.true (sym c.leads_on.ensures ∙ c.if-leads_on.false))
+    (search rules, search_on _ _ _ _ c.loop-k.invariant.1 c.loop-k-test.true (sym c.leads_on.ensures ∙ c.if-leads_on.false))
 
 pub returns : goal.returns
 returns c = search_end _ _ _ _ c.loop-k.invariant.1 c.loop-k-test.false

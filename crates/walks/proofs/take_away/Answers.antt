@@ -15,27 +15,26 @@ overflow_cast-k c = omega (arith, c.type_inv.places c.loop-q.q)
 
 pub offset_bounds-left-k : goal.offset_bounds-left-k
 offset_bounds-left-k c =
-            omega (arith, c.type_inv.places c.loop-q.q, c.requires c.loop-q.q c.loop-q-test.true)
+    omega (arith, c.type_inv.places c.loop-q.q, c.requires c.loop-q.q c.loop-q-test.true)
 
 pub bounds-left-k : goal.bounds-left-k
 bounds-left-k c =
-            omega (arith, c.requires c.loop-q.q c.loop-q-test.true)
+    omega (arith, c.requires c.loop-q.q c.loop-q-test.true)
 
 pub offset_bounds-left-k-in-loop-q : goal.offset_bounds-left-k-in-loop-q
 offset_bounds-left-k-in-loop-q c =
-            omega (arith, c.type_inv.places c.loop-q.q, c.requires c.loop-q.q c.loop-q-test.true)
+    omega (arith, c.type_inv.places c.loop-q.q, c.requires c.loop-q.q c.loop-q-test.true)
 
 pub bounds-left-k-in-loop-q : goal.bounds-left-k-in-loop-q
 bounds-left-k-in-loop-q c =
-            omega (arith, c.requires c.loop-q.q c.loop-q-test.true)
+    omega (arith, c.requires c.loop-q.q c.loop-q-test.true)
 
 pub loop-q-preserved : goal.loop-q-preserved
-loop-q-preserved c =
-    (
-      search rules,
-      simp length-set c.loop-q.invariant.1,
-      c.loop-q.invariant.2 ∙ away_turn _ _ _ _ c.loop-q-test.true ∙ rw (sym c.less.ensures),
-    )
+loop-q-preserved c = (
+  search rules,
+  simp length-set c.loop-q.invariant.1,
+  c.loop-q.invariant.2 ∙ away_turn _ _ _ _ c.loop-q-test.true ∙ rw (sym c.less.ensures),
+)
 
 pub returns : goal.returns
 returns c = sym (c.loop-q.invariant.2 ∙ away_done _ _ _ _ c.loop-q-test.false)

@@ -11,24 +11,24 @@ use Rattle.walks.proofs.write_list.Goals as goal
 
 pub loop-done-init : goal.loop-done-init
 loop-done-init c =
-        (refl, refl, refl, refl, refl, c.requires.ready, (search rules, λ j l. absurd (omega arith)), counting_starts _ _ _ _ _ _ _)
+    (refl, refl, refl, refl, refl, c.requires.ready, (search rules, λ j l. absurd (omega arith)), counting_starts _ _ _ _ _ _ _)
 
 pub first_left-lowest-requires : goal.first_left-lowest-requires
 first_left-lowest-requires c = record {
-      left_len = (c.loop-done.invariant.5.left_long, c.loop-done.invariant.6.0);
-      none_before = c.loop-done.invariant.6.1;
-    }
+  left_len = (c.loop-done.invariant.5.left_long, c.loop-done.invariant.6.0);
+  none_before = c.loop-done.invariant.6.1;
+}
 
 pub returns-then-tails-lowest : goal.returns-then-tails-lowest
 returns-then-tails-lowest c =
-        counting_none _ _ _ _ _ _ _ _ _ _ _ c.loop-done.invariant.7 _ c.first_left-lowest.ensures c.if-tails-lowest.true c.loop-done.invariant.5.ends.few_arcs
+    counting_none _ _ _ _ _ _ _ _ _ _ _ c.loop-done.invariant.7 _ c.first_left-lowest.ensures c.if-tails-lowest.true c.loop-done.invariant.5.ends.few_arcs
 
 pub take_next-taken-requires : goal.take_next-taken-requires
 take_next-taken-requires c = record {
-      ready = c.loop-done.invariant.5;
-      nodes_in_bounds = (omega (arith, c.loop-done.invariant.2, c.requires.nodes_in_bounds.0), omega (arith, c.loop-done.invariant.2, c.requires.nodes_in_bounds.1), omega (arith, c.loop-done.invariant.3, c.requires.nodes_in_bounds.2), c.requires.nodes_in_bounds.3);
-      lowest_value = (c.first_left-lowest.ensures, c.if-tails-lowest.false);
-    }
+  ready = c.loop-done.invariant.5;
+  nodes_in_bounds = (omega (arith, c.loop-done.invariant.2, c.requires.nodes_in_bounds.0), omega (arith, c.loop-done.invariant.2, c.requires.nodes_in_bounds.1), omega (arith, c.loop-done.invariant.3, c.requires.nodes_in_bounds.2), c.requires.nodes_in_bounds.3);
+  lowest_value = (c.first_left-lowest.ensures, c.if-tails-lowest.false);
+}
 
 pub offset_bounds-walked-from : goal.offset_bounds-walked-from
 offset_bounds-walked-from c =
@@ -37,16 +37,14 @@ offset_bounds-walked-from c =
 
 pub write_piece-at-requires : goal.write_piece-at-requires
 write_piece-at-requires c =
-    let few : length c.take_next-taken.new.walked ≤ 512 = omega (arith, c.take_next-taken.auto.walked, c.loop-done.invariant.2, c.requires.nodes_in_bounds.1) in
-    (
+    let few : length c.take_next-taken.new.walked ≤ 512 = omega (arith, c.take_next-taken.auto.walked, c.loop-done.invariant.2, c.requires.nodes_in_bounds.1) in (
       omega (arith, c.loop-done.invariant.7.bounded, c.loop-done.invariant.7.within, c.loop-done.invariant.5.ends.few_arcs),
       piece_short _ _ _ _ _ _ _ _ _ _ _ c.loop-done.invariant.7 c.loop-done-test.true _ c.first_left-lowest.ensures c.if-tails-lowest.false _ _ _ _ _ c.take_next-taken.ensures.took few,
     )
 
 pub loop-done-preserved : goal.loop-done-preserved
 loop-done-preserved c =
-    let few : length c.take_next-taken.new.walked ≤ 512 = omega (arith, c.take_next-taken.auto.walked, c.loop-done.invariant.2, c.requires.nodes_in_bounds.1) in
-    (
+    let few : length c.take_next-taken.new.walked ≤ 512 = omega (arith, c.take_next-taken.auto.walked, c.loop-done.invariant.2, c.requires.nodes_in_bounds.1) in (
       c.take_next-taken.auto.left ∙ c.loop-done.invariant.0,
       c.take_next-taken.auto.first ∙ c.loop-done.invariant.1,
       c.take_next-taken.auto.walked ∙ c.loop-done.invariant.2,

@@ -7,9 +7,9 @@ use Rattle.walks.proofs.write_piece.Goals as goal
 
 pub returns-then-list-end : goal.returns-then-list-end
 returns-then-list-end c = record {
-      value = refl;
-      list_value = λ l. absurd (omega (arith, c.if-list-end.true));
-    }
+  value = refl;
+  list_value = λ l. absurd (omega (arith, c.if-list-end.true));
+}
 
 pub bounds-list-at-2 : goal.bounds-list-at-2
 bounds-list-at-2 c = simp length-set (omega arith)
@@ -25,6 +25,6 @@ shape_of-list c = c.store.auto.row ∙ simp length-set
 
 pub returns : goal.returns
 returns c = record {
-      value = refl;
-      list_value = λ _. c.store.ensures ∙ stored_piece c.args.list.now c.args.places.now c.args.at _ _ _;
-    }
+  value = refl;
+  list_value = λ _. c.store.ensures ∙ stored_piece c.args.list.now c.args.places.now c.args.at _ _ _;
+}

@@ -32,7 +32,7 @@ put_ends-p-requires c =
     let node : ℕ = c.loop-i.i + 1 in
     let (s, t, known) = c.requires.by_index in
     let T = table s t in
-    let same = places_are § s t known in
+    let same = c.node_list.ensures T known refl refl in
     let stand : AllTouch (length c.args.tails.now) c.args.tails.now c.args.heads.now node c.node_list.result.now =
     subst⁻¹ (AllTouch (length c.args.tails.now) c.args.tails.now c.args.heads.now node) same
     (λ j l. (omega (arith, (list_stands T node j l).0, c.requires.arc_rows.0.capacities_long), (list_stands T node j l).1)) in record {
@@ -60,7 +60,7 @@ loop-i-preserved c =
       c.put_ends-p.auto.ends ∙ c.loop-i.invariant.1,
       λ s t known.
           let T = table s t in
-          let same = places_are § s t known in
+          let same = c.node_list.ensures T known refl refl in
           let before = c.loop-i.invariant.2 s t known in (
             c.put_ends-p.ensures.value.0 ∙ joined_on T c.loop-i.i c.loop-i.p before.0 c.node_list.result.now same,
             filled_on T c.loop-i.i c.loop-i.p before.0 c.node_list.result.now same c.loop-i.ends c.put_ends-p.new.ends before.1 c.put_ends-p.ensures.value.1
@@ -72,7 +72,7 @@ pub shape_of-ends : goal.shape_of-ends
 shape_of-ends c = c.loop-i.invariant.1
 
 pub returns : goal.returns
-returns c =
+returns c s t known =
     let table : ℕ → ℕ → Table = λ s t. table_of c.args.n s t c.args.tails.now c.args.heads.now c.args.capacities.now in
     let T = table s t in
         let all : c.loop-i.i ≡ c.args.n = omega (arith, c.loop-i.invariant.0, c.loop-i-test.false) in

@@ -36,7 +36,7 @@ new_label-requires c =
     }
 
 pub returns : goal.returns
-returns c =
+returns c s t known ends_are =
                 let given = c.args in
     let table = table_of given.n s t given.tails.now given.heads.now given.capacities.now in
     let st = state_in given.n given.flow.now given.work.now in

@@ -20,7 +20,7 @@ list_part-requires c =
     }
 
 pub returns : goal.returns
-returns c =
+returns c t known of_n far =
         let listed = listed_cut t c.args.n _ c.args.work.now of_n refl known in
     let node : Node t.nodes c.args.i = omega (arith, of_n, c.requires.3) in
     subst⁻¹ (λ (row : List ℕ). (length row ≡ length (list t c.args.i)) × FarEnds t c.args.i (list t c.args.i) row) c.list_part.ensures

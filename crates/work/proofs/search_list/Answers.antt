@@ -38,7 +38,7 @@ search-requires c =
     }
 
 pub returns : goal.returns
-returns c =
+returns c s t known ends_are looked =
                     let given = c.args in
     let table = table_of given.n s t given.tails.now given.heads.now given.capacities.now in
     let st = state_in given.n given.flow.now given.work.now in
