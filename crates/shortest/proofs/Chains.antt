@@ -1,6 +1,6 @@
 -- The chain by the lowest places that lead one nearer, where it arrives, is the first of the chains of fewest arcs, and the only such: by the distances, and by labels that are nowhere above them.
 use Prim.Native.Nat.{ℕ, zero, suc, ◌≤◌, ◌<◌}
-use mathlib.Core.Path.{◌≡◌, refl, sym, ap, subst, ◌∙◌}
+use mathlib.Core.Path.{◌≡◌, refl, sym, ap, ap₂, subst, ◌∙◌}
 use mathlib.Core.Logic.{◌⊎◌, inl, inr, ⊎_elim}
 use mathlib.Core.Bool.{Bool, true, false, ◌&&◌, true≢false, cond}
 use mathlib.Core.List.{List, [], ◌∷◌}
@@ -185,13 +185,26 @@ module _ (w : Ways) (n t : ℕ) (ends : Ends n w) (row : List ℕ) (right : Dist
 
 -- ---- there is only one such chain
 
+-- Of two lists that begin, the one that comes before the other begins lower, or alike and goes on before it.
+before_front : {k l : ℕ} {ks ls : List ℕ} → Before (k ∷ ks) (l ∷ ls) → (k < l) ⊎ ((k ≡ l) × Before ks ls)
+before_front (lower l) = inl l
+before_front (alike p) = inr (refl, p)
+
 -- Places that come before each other are the same.
 pub before_same : {ks ls : List ℕ} → Before ks ls → Before ls ks → ks ≡ ls
-before_same ended ended = refl
-before_same (lower l) (lower m) = absurd (omega arith)
-before_same (lower l) (alike q) = absurd (omega arith)
-before_same (alike p) (lower m) = absurd (omega arith)
-before_same (alike {k} p) (alike q) = ap (λ r. k ∷ r) (before_same p q)
+before_same {ks} {ls} p q = go ks ls p q
+  where
+    go : (ks ls : List ℕ) → Before ks ls → Before ls ks → ks ≡ ls
+    go [] [] p q = refl
+    go [] (l ∷ ls) p q = elim p [ ]
+    go (k ∷ ks) [] p q = elim p [ ]
+    go (k ∷ ks) (l ∷ ls) p q = fronts (before_front p) (before_front q)
+      where
+        fronts : (k < l) ⊎ ((k ≡ l) × Before ks ls) → (l < k) ⊎ ((l ≡ k) × Before ls ks) → k ∷ ks ≡ l ∷ ls
+        fronts (inl m) (inl n) = absurd (omega arith)
+        fronts (inl m) (inr n) = absurd (omega (arith, n.0))
+        fronts (inr m) (inl n) = absurd (omega (arith, m.0))
+        fronts (inr m) (inr n) = ap₂ (λ (r : ℕ) (rs : List ℕ). r ∷ rs) m.0 (go ks ls m.1 n.1)
 
 -- So two chains that are first are the same.
 pub first_chain_same : (w : Ways) (s t : ℕ) (ks ls : List ℕ) → FirstChain w s t ks → FirstChain w s t ls → ks ≡ ls

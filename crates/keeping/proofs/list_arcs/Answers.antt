@@ -1,8 +1,7 @@
 -- `list_arcs` meets its contract. The loop's invariant: the places of the kept arcs below k stand in the list, and are counted.
 use Prim.Native.Nat.{ℕ, suc, ◌+◌, ◌-◌, ◌≤◌, ◌<◌}
 use mathlib.Core.Path.{◌≡◌, refl, sym, ◌∙◌}
-use mathlib.Core.Logic.{⊎_elim}
-use mathlib.Core.Bool.{Bool}
+use mathlib.Core.Bool.{Bool, true}
 use native.Mathlib.Omega.{arith}
 use lib.ListN.{length}
 use Rattle.listing.specs.Passing.{passing}
@@ -10,6 +9,7 @@ use Rattle.listing.proofs.Listing.{passing_few, gathered_none, gathered_room, ga
 use Rattle.shrinking.specs.Smaller.{arc_by}
 use borrow.Author.Rules.{rules}
 use Rattle.keeping.proofs.list_arcs.Goals as goal
+use Rattle.keeping.proofs.list_arcs.Goals.{then-keeps_arc, else-keeps_arc}
 
 pub loop-k-init : goal.loop-k-init
 unfolding passing
@@ -50,12 +50,13 @@ pub loop-k-preserved : goal.loop-k-preserved
 loop-k-preserved c =
     let test : ℕ → Bool = let args = c.args in arc_by args.ahead.now args.behind.now args.tails.now args.heads.now args.capacities.now in
     let k = c.loop-k.k in
+    let room : c.keeps_arc.result ≡ true → c.loop-k.count < length c.loop-k.list = λ kept. let m = length c.args.tails.now in gathered_room test c.loop-k.k m _ _ _ c.loop-k.invariant.1 (sym c.keeps_arc.ensures ∙ kept) c.loop-k-test.true (omega (arith, c.requires.3, passing_few test m)) in
     let on : k + 1 ≡ suc k = omega arith in (
       omega (arith, c.loop-k-test.true),
-      ⊎_elim
-          (λ w. gathered_yes test k _ _ _ k _ _ _ on c.loop-k.invariant.1 (sym c.keeps_arc.ensures ∙ w.0.taken) (room (record { before = §; if1 = w.0 })) refl w.1 w.2)
-          (λ w. gathered_no test k _ _ _ _ _ _ on c.loop-k.invariant.1 (sym c.keeps_arc.ensures ∙ w.0.left) w.1 w.2)
-          c.if-keeps_arc.branch,
+      elim c.if-keeps_arc.branch [
+        | then-keeps_arc w ↦ gathered_yes test k _ _ _ k _ _ _ on c.loop-k.invariant.1 (sym c.keeps_arc.ensures ∙ w.if-keeps_arc.true) (room w.if-keeps_arc.true) refl w.list-is w.count-is
+        | else-keeps_arc w ↦ gathered_no test k _ _ _ _ _ _ on c.loop-k.invariant.1 (sym c.keeps_arc.ensures ∙ w.if-keeps_arc.false) w.list-is w.count-is
+      ],
     )
 
 pub shape_of-list : goal.shape_of-list

@@ -1,8 +1,7 @@
 -- `list_kept` meets its contract. The loop's invariant: the kept nodes up to k stand in the list, and are counted.
 use Prim.Native.Nat.{ℕ, suc, ◌+◌, ◌-◌, ◌≤◌, ◌<◌}
 use mathlib.Core.Path.{◌≡◌, sym, ap, ◌∙◌}
-use mathlib.Core.Logic.{⊎_elim}
-use mathlib.Core.Bool.{Bool, false}
+use mathlib.Core.Bool.{Bool, false, true}
 use native.Mathlib.Omega.{arith}
 use lib.ListN.{length}
 use Rattle.listing.proofs.Listing.{passing_fewer, gathered_none, gathered_room, gathered_yes, gathered_no}
@@ -10,6 +9,7 @@ use Rattle.shrinking.specs.Smaller.{node_by}
 use Rattle.keeping.proofs.Keeping.{node_zero, none_before}
 use borrow.Author.Rules.{rules}
 use Rattle.keeping.proofs.list_kept.Goals as goal
+use Rattle.keeping.proofs.list_kept.Goals.{then-keeps_node, else-keeps_node}
 
 pub loop-k-init : goal.loop-k-init
 loop-k-init c =
@@ -59,12 +59,14 @@ loop-k-preserved c =
     let test : ℕ → Bool = let args = c.args in node_by args.ahead.now args.behind.now args.s args.t in
     let told : c.keeps_node.result ≡ test (suc c.loop-k.k) = let on : c.loop-k.k + 1 ≡ suc c.loop-k.k = omega arith in c.keeps_node.ensures ∙ ap test on in
     let k = c.loop-k.k in
+    let none : test 0 ≡ false = let args = c.args in node_zero args.ahead.now args.behind.now args.s args.t c.requires.3.0 c.requires.3.1 in
+    let room : c.keeps_node.result ≡ true → c.loop-k.count < length c.loop-k.list = λ kept. let n = length c.args.ahead.now in gathered_room test (suc c.loop-k.k) (suc n) _ _ _ c.loop-k.invariant.1 (sym told ∙ kept) (omega (arith, c.loop-k-test.true)) (omega (arith, c.requires.2, passing_fewer test none n)) in
     let on : suc (k + 1) ≡ suc (suc k) = omega arith in (
       omega (arith, c.loop-k-test.true),
-      ⊎_elim
-          (λ w. gathered_yes test (suc k) _ _ _ (k + 1) _ _ _ on c.loop-k.invariant.1 (sym told ∙ w.0.taken) (room (record { before = §; if1 = w.0 })) (omega arith) w.1 w.2)
-          (λ w. gathered_no test (suc k) _ _ _ _ _ _ on c.loop-k.invariant.1 (sym told ∙ w.0.left) w.1 w.2)
-          c.if-keeps_node.branch,
+      elim c.if-keeps_node.branch [
+        | then-keeps_node w ↦ gathered_yes test (suc k) _ _ _ (k + 1) _ _ _ on c.loop-k.invariant.1 (sym told ∙ w.if-keeps_node.true) (room w.if-keeps_node.true) (omega arith) w.list-is w.count-is
+        | else-keeps_node w ↦ gathered_no test (suc k) _ _ _ _ _ _ on c.loop-k.invariant.1 (sym told ∙ w.if-keeps_node.false) w.list-is w.count-is
+      ],
     )
 
 pub shape_of-list : goal.shape_of-list

@@ -59,9 +59,9 @@ returns c =
       arcs_are = c.list_arcs-arcs.ensures.0;
       source_is = c.at_node.ensures ∙ ap (λ (l : List ℕ). at_node l args.s) c.number_nodes.ensures ∙ at_nodes (up_to node_test) n args.s c.requires.node.0;
       sink_is = c.at_node-2.ensures ∙ ap (λ (l : List ℕ). at_node l args.t) c.number_nodes.ensures ∙ at_nodes (up_to node_test) n args.t c.requires.node.1;
-      tails_is = c.fill_arcs.ensures.small_tails_value ∙ ap (λ (l : List ℕ). filled_with l args.small-tails.now) (ends_numbered node_test arc_test n m numbers args.tails.now _ c.number_nodes.ensures front c.requires.arc_ends.0.tail_node);
-      heads_is = c.fill_arcs.ensures.small_heads_value ∙ ap (λ (l : List ℕ). filled_with l args.small-heads.now) (ends_numbered node_test arc_test n m numbers args.heads.now _ c.number_nodes.ensures front c.requires.arc_ends.0.head_node);
-      capacities_is = c.fill_arcs.ensures.small_capacities_value ∙ ap (λ (l : List ℕ). filled_with (map (λ (k : ℕ). at_place args.capacities.now k) l) args.small-capacities.now) front;
+      tails_is = c.fill_arcs.ensures.small_tails_value ∙ ap (λ (l : List ℕ). filled_with l args.small_tails.now) (ends_numbered node_test arc_test n m numbers args.tails.now _ c.number_nodes.ensures front c.requires.arc_ends.0.tail_node);
+      heads_is = c.fill_arcs.ensures.small_heads_value ∙ ap (λ (l : List ℕ). filled_with l args.small_heads.now) (ends_numbered node_test arc_test n m numbers args.heads.now _ c.number_nodes.ensures front c.requires.arc_ends.0.head_node);
+      capacities_is = c.fill_arcs.ensures.small_capacities_value ∙ ap (λ (l : List ℕ). filled_with (map (λ (k : ℕ). at_place args.capacities.now k) l) args.small_capacities.now) front;
       nodes_from = c.list_kept-nodes.ensures.1;
       arcs_from = c.list_arcs-arcs.ensures.1;
     }

@@ -6,6 +6,7 @@ use native.Mathlib.Omega.{arith}
 use Rattle.days.specs.Month.{starts_fall}
 use Rattle.days.proofs.Starting.{falls_here, rises_here}
 use Rattle.month.proofs.do_fall.Goals as goal
+use Rattle.month.proofs.do_fall.Goals.{then-start_of, else-start_of}
 
 pub loop-k-init : goal.loop-k-init
 unfolding starts_fall
@@ -21,10 +22,10 @@ pub loop-k-preserved : goal.loop-k-preserved
 loop-k-preserved c =
                 let given = c.args in (
       omega arith,
-      ⊎_elim
-          (λ w. w.1 ∙ falls_here given.starts.now given.end c.loop-k.k c.loop-k.invariant.1 c.start_of.ensures c.start_of-in-loop-k.ensures w.0.taken)
-          (λ w. w.1 ∙ rises_here given.starts.now given.end c.loop-k.k c.loop-k.invariant.1 c.start_of.ensures c.start_of-in-loop-k.ensures w.0.left)
-          c.if-start_of.branch,
+      elim c.if-start_of.branch [
+        then-start_of w ↦ w.fall-is ∙ falls_here given.starts.now given.end c.loop-k.k c.loop-k.invariant.1 c.start_of.ensures c.start_of-in-loop-k.ensures w.if-start_of.true
+        | else-start_of w ↦ w.fall-is ∙ rises_here given.starts.now given.end c.loop-k.k c.loop-k.invariant.1 c.start_of.ensures c.start_of-in-loop-k.ensures w.if-start_of.false
+      ],
     )
 
 pub returns : goal.returns

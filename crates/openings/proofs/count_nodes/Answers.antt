@@ -9,6 +9,7 @@ use Rattle.reach.specs.Side.{marked}
 use Rattle.listing.specs.Passing.{passing}
 use Rattle.listing.proofs.Listing.{passing_fewer, counted_yes, counted_no}
 use Rattle.openings.proofs.count_nodes.Goals as goal
+use Rattle.openings.proofs.count_nodes.Goals.{then-marks-k-eq1, else-marks-k-eq1}
 
 pub loop-k-init : goal.loop-k-init
 unfolding passing
@@ -24,10 +25,10 @@ loop-k-preserved c =
     let k = c.loop-k.k in
     let on : suc (k + 1) ≡ suc (suc k) = omega arith in (
       omega arith,
-      ⊎_elim
-          (λ w. counted_yes (marked marks) (suc k) _ _ _ on (eq-eqb _ 1 w.0.taken) c.loop-k.invariant.1 w.1)
-          (λ w. counted_no (marked marks) (suc k) _ _ _ on (ne_eqb _ 1 w.0.left) c.loop-k.invariant.1 w.1)
-          c.if-marks-k-eq1.branch,
+      elim c.if-marks-k-eq1.branch [
+        then-marks-k-eq1 w ↦ counted_yes (marked marks) (suc k) _ _ _ on (eq-eqb _ 1 w.if-marks-k-eq1.true) c.loop-k.invariant.1 w.count-is
+        | else-marks-k-eq1 w ↦ counted_no (marked marks) (suc k) _ _ _ on (ne_eqb _ 1 w.if-marks-k-eq1.false) c.loop-k.invariant.1 w.count-is
+      ],
     )
 
 pub returns : goal.returns

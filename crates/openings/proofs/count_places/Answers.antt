@@ -9,6 +9,7 @@ use Rattle.listing.specs.Passing.{passing}
 use Rattle.openings.specs.Helping.{helps_from}
 use Rattle.listing.proofs.Listing.{passing_few, counted_yes, counted_no}
 use Rattle.openings.proofs.count_places.Goals as goal
+use Rattle.openings.proofs.count_places.Goals.{then-both_mark, else-both_mark}
 
 pub loop-k-init : goal.loop-k-init
 unfolding passing
@@ -32,10 +33,10 @@ loop-k-preserved c =
     let k = c.loop-k.k in
     let on : k + 1 ≡ suc k = omega arith in (
       omega (arith, c.loop-k-test.true),
-      ⊎_elim
-          (λ w. counted_yes test k _ _ _ on (sym c.both_mark.ensures ∙ w.0.taken) c.loop-k.invariant.1 w.1)
-          (λ w. counted_no test k _ _ _ on (sym c.both_mark.ensures ∙ w.0.left) c.loop-k.invariant.1 w.1)
-          c.if-both_mark.branch,
+      elim c.if-both_mark.branch [
+        then-both_mark w ↦ counted_yes test k _ _ _ on (sym c.both_mark.ensures ∙ w.if-both_mark.true) c.loop-k.invariant.1 w.count-is
+        | else-both_mark w ↦ counted_no test k _ _ _ on (sym c.both_mark.ensures ∙ w.if-both_mark.false) c.loop-k.invariant.1 w.count-is
+      ],
     )
 
 pub returns : goal.returns

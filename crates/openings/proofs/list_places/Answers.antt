@@ -1,8 +1,7 @@
 -- `list_places` meets its contract. The loop's invariant: the places below k whose arcs would help stand in the list, and are counted.
 use Prim.Native.Nat.{ℕ, suc, ◌+◌, ◌-◌, ◌≤◌, ◌<◌}
 use mathlib.Core.Path.{◌≡◌, refl, sym, ◌∙◌}
-use mathlib.Core.Logic.{⊎_elim}
-use mathlib.Core.Bool.{Bool}
+use mathlib.Core.Bool.{Bool, true}
 use native.Mathlib.Omega.{arith}
 use borrow.Author.Rules.{rules}
 use lib.ListN.{length}
@@ -10,6 +9,7 @@ use Rattle.listing.specs.Passing.{passing}
 use Rattle.openings.specs.Helping.{helps_from}
 use Rattle.listing.proofs.Listing.{passing_few, gathered_none, gathered_room, gathered_yes, gathered_no}
 use Rattle.openings.proofs.list_places.Goals as goal
+use Rattle.openings.proofs.list_places.Goals.{then-both_mark, else-both_mark}
 
 pub loop-k-init : goal.loop-k-init
 unfolding passing
@@ -53,12 +53,13 @@ pub loop-k-preserved : goal.loop-k-preserved
 loop-k-preserved c =
     let test : ℕ → Bool = let args = c.args in helps_from args.side.now args.drains.now args.tails.now args.heads.now in
     let k = c.loop-k.k in
+    let room : c.both_mark.result ≡ true → c.loop-k.count < length c.loop-k.list = λ kept. gathered_room test c.loop-k.k (length c.args.tails.now) _ _ _ c.loop-k.invariant.1 (sym c.both_mark.ensures ∙ kept) c.loop-k-test.true c.requires.heads_in_bounds in
     let on : k + 1 ≡ suc k = omega arith in (
       omega (arith, c.loop-k-test.true),
-      ⊎_elim
-          (λ w. gathered_yes test k _ _ _ k _ _ _ on c.loop-k.invariant.1 (sym c.both_mark.ensures ∙ w.0.taken) (room (record { before = §; if1 = w.0 })) refl w.1 w.2)
-          (λ w. gathered_no test k _ _ _ _ _ _ on c.loop-k.invariant.1 (sym c.both_mark.ensures ∙ w.0.left) w.1 w.2)
-          c.if-both_mark.branch,
+      elim c.if-both_mark.branch [
+        then-both_mark w ↦ gathered_yes test k _ _ _ k _ _ _ on c.loop-k.invariant.1 (sym c.both_mark.ensures ∙ w.if-both_mark.true) (room w.if-both_mark.true) refl w.list-is w.count-is
+        | else-both_mark w ↦ gathered_no test k _ _ _ _ _ _ on c.loop-k.invariant.1 (sym c.both_mark.ensures ∙ w.if-both_mark.false) w.list-is w.count-is
+      ],
     )
 
 pub shape_of-list : goal.shape_of-list

@@ -14,6 +14,7 @@ use mathlib.Core.Logic.{⊎_elim}
 use native.Mathlib.Omega.{arith}
 use borrow.Author.Rules.{rules}
 use Rattle.start.proofs.start_excess.Goals as goal
+use Rattle.start.proofs.start_excess.Goals.{then-tail-s, else-tail-s}
 
 pub loop-k-init : goal.loop-k-init
 loop-k-init c =
@@ -49,18 +50,18 @@ loop-k-preserved c =
     let T = table_of n given.s given.t given.tails.now given.heads.now given.capacities.now in
     let j = at_place given.heads.now k in
     let x = at_place given.capacities.now k in
-    ⊎_elim
-    (λ w.
-    let gained = total_received c.loop-k.excess given.t j x (omega (arith, c.loop-k.invariant.2)) in (
-      omega arith,
-      w.7 ∙ w.4.ensures ∙ ap (λ (row : List ℕ). received row given.t j x) c.loop-k.invariant.1
-          ∙ row_received T n k w.0.taken (λ q. c.requires.ends.no_loop k (omega (arith, c.requires.capacities_long)) (w.0.taken ∙ sym q)) (omega (arith, c.loop-k.invariant.2)),
-      ap length w.7 ∙ w.4.kept.0 ∙ c.loop-k.invariant.2,
-      omega (arith, ap total (w.7 ∙ w.4.ensures), c.requires.small k more),
-    ))
-    (λ w.
-    (omega arith, w.1 ∙ c.loop-k.invariant.1 ∙ row_passed T n k w.0.left, ap length w.1 ∙ c.loop-k.invariant.2, omega (arith, ap total w.1)))
-    c.if-tail-s.branch
+    elim c.if-tail-s.branch [
+      | then-tail-s w ↦
+          let gained = total_received c.loop-k.excess given.t j x (omega (arith, c.loop-k.invariant.2)) in (
+            omega arith,
+            w.excess-is ∙ w.receive.ensures ∙ ap (λ (row : List ℕ). received row given.t j x) c.loop-k.invariant.1
+                ∙ row_received T n k w.if-tail-s.true (λ q. c.requires.ends.no_loop k (omega (arith, c.requires.capacities_long)) (w.if-tail-s.true ∙ sym q)) (omega (arith, c.loop-k.invariant.2)),
+            ap length w.excess-is ∙ w.receive.auto.excess ∙ c.loop-k.invariant.2,
+            omega (arith, ap total (w.excess-is ∙ w.receive.ensures), c.requires.small k more),
+          )
+      | else-tail-s w ↦
+          (omega arith, w.excess-is ∙ c.loop-k.invariant.1 ∙ row_passed T n k w.if-tail-s.false, ap length w.excess-is ∙ c.loop-k.invariant.2, omega (arith, ap total w.excess-is))
+    ]
 
 pub shape_of-excess : goal.shape_of-excess
 shape_of-excess c = c.loop-k.invariant.2 ∙ c.clear.auto.row

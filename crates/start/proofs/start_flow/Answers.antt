@@ -12,6 +12,7 @@ use native.Mathlib.Omega.{arith}
 use borrow.Author.Tests.{eq-eqb, ne_eqb}
 use borrow.Author.Rules.{rules}
 use Rattle.start.proofs.start_flow.Goals as goal
+use Rattle.start.proofs.start_flow.Goals.{then-tail-s, else-tail-s}
 
 pub loop-k-init : goal.loop-k-init
 loop-k-init c = (search rules, fill_none _ _, refl)
@@ -24,11 +25,14 @@ loop-k-preserved c =
     → set c.loop-k.flow k x ≡ by_place (start_flow_at (table_of 0 given.s 0 given.tails.now [] given.capacities.now)) (k + 1) ++ drop (k + 1) given.flow.now
     = λ x e. ap (λ (l : List ℕ). set l k x) c.loop-k.invariant.1 ∙ fill_place _ k x given.flow.now (omega arith) e in (
       omega arith,
-      ⊎_elim
-          (λ w. w.2 ∙ fills _ (rw (eq-eqb _ _ w.0.taken)))
-          (λ w. w.1 ∙ fills _ (rw (ne_eqb _ _ w.0.left)))
-          c.if-tail-s.branch,
-      ⊎_elim (λ w. ap length w.2 ∙ simp length-set c.loop-k.invariant.2) (λ w. ap length w.1 ∙ simp length-set c.loop-k.invariant.2) c.if-tail-s.branch,
+      elim c.if-tail-s.branch [
+        | then-tail-s w ↦ w.flow-is ∙ fills _ (rw (eq-eqb _ _ w.if-tail-s.true))
+        | else-tail-s w ↦ w.flow-is ∙ fills _ (rw (ne_eqb _ _ w.if-tail-s.false))
+      ],
+      elim c.if-tail-s.branch [
+        | then-tail-s w ↦ ap length w.flow-is ∙ simp length-set c.loop-k.invariant.2
+        | else-tail-s w ↦ ap length w.flow-is ∙ simp length-set c.loop-k.invariant.2
+      ],
     )
 
 pub shape_of-flow : goal.shape_of-flow

@@ -8,6 +8,7 @@ use mathlib.Core.Logic.{⊎_elim}
 use native.Mathlib.Omega.{arith}
 use borrow.Author.Rules.{rules}
 use Rattle.start.proofs.sum_at.Goals as goal
+use Rattle.start.proofs.sum_at.Goals.{then-end-i, else-end-i}
 
 pub loop-k-init : goal.loop-k-init
 unfolding sum
@@ -17,11 +18,11 @@ pub loop-k-preserved : goal.loop-k-preserved
 loop-k-preserved c =
     let given = c.args in (
       omega arith,
-      ⊎_elim
-          (λ w. omega (arith, w.2.ensures.0, w.3, sum_on given.ends.now given.flow.now given.i c.loop-k.k w.0.taken))
-          (λ w. omega (arith, w.1, sum_past given.ends.now given.flow.now given.i c.loop-k.k w.0.left))
-          c.if-end-i.branch,
-      ⊎_elim (λ w. omega arith) (λ w. omega arith) c.if-end-i.branch,
+      elim c.if-end-i.branch [
+        | then-end-i w ↦ omega (arith, w.wide-sum.ensures.0, w.sum-is, sum_on given.ends.now given.flow.now given.i c.loop-k.k w.if-end-i.true)
+        | else-end-i w ↦ omega (arith, w.sum-is, sum_past given.ends.now given.flow.now given.i c.loop-k.k w.if-end-i.false)
+      ],
+      elim c.if-end-i.branch [ then-end-i w ↦ omega arith | else-end-i w ↦ omega arith ],
     )
 
 pub returns : goal.returns

@@ -27,14 +27,12 @@ send-requires c =
     let table : Table = table_of (length c.args.excess.now) c.args.s c.args.t c.args.tails.now c.requires.by_index.0 c.args.capacities.now in
     let amount_is : c.amount-d.result ≡ amount table c.args.delta (state_of c.args.flow.now c.args.excess.now []) c.args.i c.args.k = c.amount-d.ensures (length c.args.excess.now) c.args.s c.args.t c.requires.by_index.0 [] c.requires.by_index.2 in
     let given = c.args in
-    let the_facts = (
-      (omega (arith, c.requires.within_capacities.2, c.requires.by_index.1.capacities_long), omega (arith, c.requires.within_capacities.2, c.requires.within_capacities.0.room)),
-      push_sends given.tails.now c.requires.by_index.0 given.capacities.now given.flow.now given.excess.now given.s given.t given.delta given.i given.k
-          c.amount-d.result c.requires.by_index.1 c.requires.within_capacities.0 c.requires.within_capacities.2 amount_is,
-    ) in record {
-      k_in_bounds = the_facts.0;
-      d_bound = the_facts.1.0;
-      d_bound_2 = the_facts.1.1;
+    let sends =
+    push_sends given.tails.now c.requires.by_index.0 given.capacities.now given.flow.now given.excess.now given.s given.t given.delta given.i given.k
+    c.amount-d.result c.requires.by_index.1 c.requires.within_capacities.0 c.requires.within_capacities.2 amount_is in record {
+      k_in_bounds = (omega (arith, c.requires.within_capacities.2, c.requires.by_index.1.capacities_long), omega (arith, c.requires.within_capacities.2, c.requires.within_capacities.0.room));
+      d_bound = sends.0;
+      d_bound_2 = sends.1;
     }
 
 pub shift-requires : goal.shift-requires
@@ -45,10 +43,10 @@ shift-requires c =
     let fits =
     push_shifts given.tails.now c.requires.by_index.0 given.capacities.now given.flow.now given.excess.now given.s given.t given.delta given.i given.k
     c.amount-d.result c.requires.by_index.1 c.requires.within_capacities.0 c.requires.within_capacities.2 amount_is given.j c.requires.by_index.2 c.requires.within_capacities.1 c.requires.at_most.1 in
-    let the_facts = ((c.requires.within_capacities.1, fits.0), fits.1) in record {
-      node = the_facts.0;
-      fact = the_facts.1.0;
-      d_bound = the_facts.1.1;
+    record {
+      node = (c.requires.within_capacities.1, fits.0);
+      fact = fits.1.0;
+      d_bound = fits.1.1;
     }
 
 pub returns : goal.returns
