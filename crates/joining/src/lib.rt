@@ -1,5 +1,6 @@
 // Document 02, CR 11: the rows of the joined network.
 #![tactic(auto)]
+
 ghost use Rattle.std.specs.Prelude.{◌≡◌, ◌-◌, ◌≤◌, ◌<◌, length};
 ghost use Rattle.rows.specs.Row.{by_place};
 ghost use Rattle.table.specs.Accepted.{ArcEnds};

@@ -190,21 +190,24 @@ before_front : {k l : ℕ} {ks ls : List ℕ} → Before (k ∷ ks) (l ∷ ls) �
 before_front (lower l) = inl l
 before_front (alike p) = inr (refl, p)
 
+-- Two lists that begin are the same where each begins lower than the other or alike, and what follows is the same.
+fronts_same : (k l : ℕ) (ks ls : List ℕ) → (Before ks ls → Before ls ks → ks ≡ ls) → (k < l) ⊎ ((k ≡ l) × Before ks ls) → (l < k) ⊎ ((l ≡ k) × Before ls ks)
+    → k ∷ ks ≡ l ∷ ls
+fronts_same k l ks ls same (inl m) (inl n) = absurd (omega arith)
+fronts_same k l ks ls same (inl m) (inr n) = absurd (omega (arith, n.0))
+fronts_same k l ks ls same (inr m) (inl n) = absurd (omega (arith, m.0))
+fronts_same k l ks ls same (inr m) (inr n) = ap₂ (λ (r : ℕ) (rs : List ℕ). r ∷ rs) m.0 (same m.1 n.1)
+
+-- Lists of places that come before each other are the same.
+lists_same : (ks ls : List ℕ) → Before ks ls → Before ls ks → ks ≡ ls
+lists_same [] [] p q = refl
+lists_same [] (l ∷ ls) p q = elim p [ ]
+lists_same (k ∷ ks) [] p q = elim p [ ]
+lists_same (k ∷ ks) (l ∷ ls) p q = fronts_same k l ks ls (lists_same ks ls) (before_front p) (before_front q)
+
 -- Places that come before each other are the same.
 pub before_same : {ks ls : List ℕ} → Before ks ls → Before ls ks → ks ≡ ls
-before_same {ks} {ls} p q = go ks ls p q
-  where
-    go : (ks ls : List ℕ) → Before ks ls → Before ls ks → ks ≡ ls
-    go [] [] p q = refl
-    go [] (l ∷ ls) p q = elim p [ ]
-    go (k ∷ ks) [] p q = elim p [ ]
-    go (k ∷ ks) (l ∷ ls) p q = fronts (before_front p) (before_front q)
-      where
-        fronts : (k < l) ⊎ ((k ≡ l) × Before ks ls) → (l < k) ⊎ ((l ≡ k) × Before ls ks) → k ∷ ks ≡ l ∷ ls
-        fronts (inl m) (inl n) = absurd (omega arith)
-        fronts (inl m) (inr n) = absurd (omega (arith, n.0))
-        fronts (inr m) (inl n) = absurd (omega (arith, m.0))
-        fronts (inr m) (inr n) = ap₂ (λ (r : ℕ) (rs : List ℕ). r ∷ rs) m.0 (go ks ls m.1 n.1)
+before_same {ks} {ls} p q = lists_same ks ls p q
 
 -- So two chains that are first are the same.
 pub first_chain_same : (w : Ways) (s t : ℕ) (ks ls : List ℕ) → FirstChain w s t ks → FirstChain w s t ls → ks ≡ ls

@@ -1,5 +1,6 @@
 // What a row holds of arcs with each node for an end, added up in one pass over the arcs.
 #![tactic(auto)]
+
 ghost use Rattle.std.specs.Prelude.{◌≡◌, ℕ, ◌+◌, ◌-◌, ◌^◌, ◌≤◌, ◌<◌, length, set};
 ghost use Rattle.rows.specs.Row.{Node, at_place, at_node};
 ghost use Rattle.sums.specs.Tallied.{Tallied};

@@ -1,5 +1,6 @@
 // The run over one work row, which is cut into four parts: excess, labels, list starts and list entries.
 #![tactic(auto)]
+
 ghost use Rattle.std.specs.Prelude.{◌≡◌, ℕ, ◌+◌, ◌-◌, ◌^◌, ◌≤◌, ◌<◌, length, set, replicate};
 ghost use Rattle.rows.specs.Row.{Node, at_node};
 ghost use Rattle.table.specs.Table.{Table, lent_table, given_table};

@@ -5,10 +5,10 @@ use Rattle.joining.proofs.join.Goals as goal
 
 pub join_capacities-requires : goal.join_capacities-requires
 join_capacities-requires c = record {
-      summable = capacities_summable c.requires.bounded_rows;
-      row_len = omega (arith, c.requires.limits_len, c.requires.bounded_rows.minimums_long);
-    }
+  summable = capacities_summable c.requires.bounded_rows;
+  row_len = omega (arith, c.requires.limits_len, c.requires.bounded_rows.minimums_long);
+}
 
 pub returns : goal.returns
 returns c =
-            rows_hold c.requires.bounded_rows c.join_ends.ensures.tails c.join_ends.ensures.heads c.join_capacities.ensures
+    rows_hold c.requires.bounded_rows c.join_ends.ensures.tails c.join_ends.ensures.heads c.join_capacities.ensures

@@ -19,4 +19,4 @@ sum_capacities-requires c =
 
 pub returns : goal.returns
 returns c =
-            zeros_same c.requires.summable c.sum_capacities.ensures
+    zeros_same c.requires.summable c.sum_capacities.ensures

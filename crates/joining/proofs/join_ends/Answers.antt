@@ -56,11 +56,11 @@ loop-k-preserved c =
     let place_of_to : c.loop-k.k < length c.loop-k.to = omega (arith, place_in, c.loop-k.invariant.2.1, c.requires.from_len.1) in
     let given = c.args in
     let now = c.loop-k in (
-      omega (arith, c.loop-k-test.true, now.inv.1.1),
-      written_next (joined_tail given.n given.s given.t given.tails.now (length given.tails.now)) given.from.now now.from now.k now.inv.1 _
-          (omega (arith, c.loop-k-test.true, now.inv.1.1)) c.ends_at-ends.ensures.0,
-      written_next (joined_head given.n given.s given.t given.heads.now (length given.tails.now)) given.to.now now.to now.k now.inv.2 _
-          (omega (arith, place_of_to, now.inv.2.1)) c.ends_at-ends.ensures.1,
+      omega (arith, c.loop-k-test.true, now.invariant.1.1),
+      written_next (joined_tail given.n given.s given.t given.tails.now (length given.tails.now)) given.from.now now.from now.k now.invariant.1 _
+          (omega (arith, c.loop-k-test.true, now.invariant.1.1)) c.ends_at-ends.ensures.0,
+      written_next (joined_head given.n given.s given.t given.heads.now (length given.tails.now)) given.to.now now.to now.k now.invariant.2 _
+          (omega (arith, place_of_to, now.invariant.2.1)) c.ends_at-ends.ensures.1,
     )
 
 pub shape_of-from : goal.shape_of-from
@@ -71,9 +71,9 @@ shape_of-to c = c.loop-k.invariant.2.1
 
 pub returns : goal.returns
 returns c =
-        let given = c.args in
+    let given = c.args in
     let now = c.loop-k in
-        let all : now.k ≡ length given.from.now = omega (arith, now.invariant.0, c.loop-k-test.false, now.invariant.1.1) in record {
+    let all : now.k ≡ length given.from.now = omega (arith, now.invariant.0, c.loop-k-test.false, now.invariant.1.1) in record {
       tails = written_all (joined_tail given.n given.s given.t given.tails.now (length given.tails.now)) _ _ _ now.invariant.1 all
           ∙ ap (by_place (joined_tail given.n given.s given.t given.tails.now (length given.tails.now))) c.requires.from_len.0;
       heads = written_all (joined_head given.n given.s given.t given.heads.now (length given.tails.now)) _ _ _ now.invariant.2 (omega (arith, all, c.requires.from_len.0, c.requires.from_len.1))

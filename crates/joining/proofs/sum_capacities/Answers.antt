@@ -6,14 +6,14 @@ use Rattle.joining.proofs.sum_capacities.Goals as goal
 
 pub tally-requires : goal.tally-requires
 tally-requires c = record {
-      ends_in_bounds = (heads_asked c.requires.summable).0;
-      by_index = (heads_asked c.requires.summable).1;
-      tallied = c.requires.tallied.0;
-    }
+  ends_in_bounds = (heads_asked c.requires.summable).0;
+  by_index = (heads_asked c.requires.summable).1;
+  tallied = c.requires.tallied.0;
+}
 
 pub tally-requires-2 : goal.tally-requires-2
 tally-requires-2 c =
-        let asked = tails_asked c.requires.summable _ c.requires.leaving_len.0 in record {
+    let asked = tails_asked c.requires.summable _ c.requires.leaving_len.0 in record {
       ends_in_bounds = asked.0;
       by_index = asked.1;
       tallied = c.requires.tallied.1;
@@ -21,10 +21,10 @@ tally-requires-2 c =
 
 pub fill_capacities-requires : goal.fill_capacities-requires
 fill_capacities-requires c = record {
-      numbers = numbers c.requires.summable c.tally.auto.sums (c.tally-2.auto.sums ∙ c.requires.leaving_len.0) c.tally.ensures c.tally-2.ensures;
-      row_len = omega (arith, c.requires.leaving_len.1, c.tally.auto.sums);
-    }
+  numbers = numbers c.requires.summable c.tally.auto.sums (c.tally-2.auto.sums ∙ c.requires.leaving_len.0) c.tally.ensures c.tally-2.ensures;
+  row_len = omega (arith, c.requires.leaving_len.1, c.tally.auto.sums);
+}
 
 pub returns : goal.returns
 returns c =
-                    summed c.requires.summable c.tally.auto.sums (c.tally-2.auto.sums ∙ c.requires.leaving_len.0) c.tally.ensures c.tally-2.ensures _ c.requires.leaving_len.1 c.fill_capacities.ensures
+    summed c.requires.summable c.tally.auto.sums (c.tally-2.auto.sums ∙ c.requires.leaving_len.0) c.tally.ensures c.tally-2.ensures _ c.requires.leaving_len.1 c.fill_capacities.ensures

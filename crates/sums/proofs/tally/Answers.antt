@@ -29,6 +29,6 @@ shape_of-sums c = c.loop-k.invariant.1
 
 pub returns : goal.returns
 returns c =
-        let given = c.args in
+    let given = c.args in
     let all : c.loop-k.k ≡ length given.ends.now = omega arith in
     subst (λ k. Tallied given.ends.now given.flow.now k c.loop-k.sums) all c.loop-k.invariant.2

@@ -16,7 +16,7 @@ use Rattle.work.proofs.begin.Goals as goal
 
 pub start_excess-requires : goal.start_excess-requires
 start_excess-requires c =
-        let given = c.args in
+    let given = c.args in
     subst⁻¹ (λ (m : ℕ). ArcRows m given.tails.now given.heads.now given.capacities.now) (length_excess given.n given.work.now c.requires.n_in_bounds.0) c.requires.arc_rows
 
 pub start_labels-requires : goal.start_labels-requires
@@ -33,7 +33,7 @@ returns c =
     let long_labels : length (labels_part c.args.n (put_mid 0 (c.args.n - 0) c.args.work.now c.start_excess.new.excess)) ≡ c.args.n = length_labels c.args.n (put_mid 0 (c.args.n - 0) c.args.work.now c.start_excess.new.excess) roomy in
     let given = c.args in
     let T = table_of given.n given.s given.t given.tails.now given.heads.now given.capacities.now in
-        let long = long_labels in
+    let long = long_labels in
     let labels_size = c.start_labels.auto.labels ∙ long in
     let excess = c.start_excess.new.excess in
     let labels = c.start_labels.new.labels in record {

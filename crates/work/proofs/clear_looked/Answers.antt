@@ -7,8 +7,8 @@ use Rattle.work.proofs.clear_looked.Goals as goal
 
 pub returns : goal.returns
 returns c =
-            let given = c.args in
-        let long = length_looked given.n given.work.now c.requires.1 in
+    let given = c.args in
+    let long = length_looked given.n given.work.now c.requires.1 in
     let size = c.clear.auto.row ∙ long in
     let new = c.clear.new.row in record {
       work_value = looked_excess given.n given.work.now new c.requires.1 size;

@@ -13,11 +13,6 @@ use Rattle.work.specs.Held.{FarTo}
 use Rattle.work.proofs.Beside.{entries_long, none_joined, joined_on, filled_on}
 use Rattle.work.proofs.fill_ends.Goals as goal
 
--- The places handed on are the next node's list.
-places_are : (c : tie.After-node-list invariant_loop decreases_loop) (s t : ℕ) → InWork (table c.before.before s t) (begun c.before.before).args.work.now
-    → c.node-list.result.now ≡ list (table c.before.before s t) (node c.before.before)
-places_are c s t known = c.node-list.ensures (table c.before.before s t) known refl refl
-
 pub loop-i-init : goal.loop-i-init
 loop-i-init c = (omega arith, refl, λ s t known. (none_joined _, λ v j v_node l. absurd (omega arith)))
 
@@ -54,8 +49,7 @@ put_ends-p-requires c =
 
 pub loop-i-preserved : goal.loop-i-preserved
 loop-i-preserved c =
-    let table : ℕ → ℕ → Table = λ s t. table_of c.args.n s t c.args.tails.now c.args.heads.now c.args.capacities.now in
-    (
+    let table : ℕ → ℕ → Table = λ s t. table_of c.args.n s t c.args.tails.now c.args.heads.now c.args.capacities.now in (
       omega (arith, c.loop-i-test.true),
       c.put_ends-p.auto.ends ∙ c.loop-i.invariant.1,
       λ s t known.
@@ -75,7 +69,7 @@ pub returns : goal.returns
 returns c s t known =
     let table : ℕ → ℕ → Table = λ s t. table_of c.args.n s t c.args.tails.now c.args.heads.now c.args.capacities.now in
     let T = table s t in
-        let all : c.loop-i.i ≡ c.args.n = omega (arith, c.loop-i.invariant.0, c.loop-i-test.false) in
+    let all : c.loop-i.i ≡ c.args.n = omega (arith, c.loop-i.invariant.0, c.loop-i-test.false) in
     record {
       room = omega (arith, entries_long T c.args.work.now known, c.requires.arc_rows.0.ends.few_arcs, c.requires.arc_rows.0.capacities_long, c.loop-i.invariant.1, c.requires.arc_rows.1);
       far_is = subst (λ (x : ℕ). FarTo T x c.loop-i.ends) all (c.loop-i.invariant.2 s t known).1;

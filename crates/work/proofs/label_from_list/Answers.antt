@@ -16,12 +16,12 @@ use Rattle.work.proofs.label_from_list.Goals as goal
 
 pub node_ends-requires : goal.node_ends-requires
 node_ends-requires c =
-            (table_of c.args.n c.requires.by_index.0 c.requires.by_index.1 c.args.tails.now c.args.heads.now c.args.capacities.now, c.requires.by_index.2, refl, c.requires.arc_rows.2, c.requires.by_index.3)
+    (table_of c.args.n c.requires.by_index.0 c.requires.by_index.1 c.args.tails.now c.args.heads.now c.args.capacities.now, c.requires.by_index.2, refl, c.requires.arc_rows.2, c.requires.by_index.3)
 
 pub new_label-requires : goal.new_label-requires
 new_label-requires c =
-            let given = c.args in
-        let table = table_of given.n c.requires.by_index.0 c.requires.by_index.1 given.tails.now given.heads.now given.capacities.now in
+    let given = c.args in
+    let table = table_of given.n c.requires.by_index.0 c.requires.by_index.1 given.tails.now given.heads.now given.capacities.now in
     let long = length_labels given.n given.work.now (omega (arith, c.requires.by_index.2.room)) in
     let same = c.node_list.ensures table c.requires.by_index.2 refl refl in
     let are = c.node_ends.ensures table c.requires.by_index.2 refl c.requires.by_index.3 in
@@ -37,7 +37,7 @@ new_label-requires c =
 
 pub returns : goal.returns
 returns c s t known ends_are =
-                let given = c.args in
+    let given = c.args in
     let table = table_of given.n s t given.tails.now given.heads.now given.capacities.now in
     let st = state_in given.n given.flow.now given.work.now in
     let excess = excess_part given.n given.work.now in

@@ -9,9 +9,9 @@ use Rattle.work.proofs.next_choice.Goals as goal
 
 pub choose_next-requires : goal.choose_next-requires
 choose_next-requires c =
-        let given = c.args in
+    let given = c.args in
     let row = given.work.now in
-            let long = length_labels given.n row c.requires.n_bound.1 in
+    let long = length_labels given.n row c.requires.n_bound.1 in
     let keys = key given.delta (excess_part given.n row) (labels_part given.n row) in record {
       excess_len = (
         length_excess given.n row c.requires.n_bound.1 ∙ sym long,
@@ -24,7 +24,7 @@ choose_next-requires c =
 
 pub returns : goal.returns
 returns c =
-            let n = c.args.n in
+    let n = c.args.n in
     let row = c.args.work.now in
     subst (λ (m : ℕ). Chose m c.args.delta (excess_part n row) (labels_part n row) c.choose_next.new.tree c.choose_next.result)
     (length_labels n row c.requires.n_bound.1) c.choose_next.ensures

@@ -30,8 +30,7 @@ pub loop-taken-init : goal.loop-taken-init
 loop-taken-init c =
     let table_here : Table = table_of c.args.n c.args.s c.args.t c.args.tails.now c.args.heads.now c.args.capacities.now in
     let run_of : Run = run_in c.args.n c.args.flow.now c.args.work.now c.args.tally.counts in
-    let begins : Going table_here c.args.q c.args.delta run_of run_of c.args.tally.sink = going_first table_here c.requires.fact.0 c.args.q c.args.delta run_of c.args.tally.sink c.requires.fact_2.0 c.requires.fact_2.1 in
-    (
+    let begins : Going table_here c.args.q c.args.delta run_of run_of c.args.tally.sink = going_first table_here c.requires.fact.0 c.args.q c.args.delta run_of c.args.tally.sink c.requires.fact_2.0 c.requires.fact_2.1 in (
       begins,
       lists_idle c.args.n c.args.work.now,
       refl,
@@ -57,11 +56,11 @@ turn-turned-requires c =
     let amid = c.loop-taken.invariant.0.amid in record {
       arc_rows = (c.requires.fact.0.rows, in_work, c.requires.fact.2);
       fact = (
-          amid_in_phase table c.requires.fact.0 c.args.delta first here amid,
-          amid_node table c.requires.fact.0 c.args.delta first here amid node chosen,
-          omega (arith, amid_few table c.requires.fact.0 c.args.delta first here amid),
-          going_small table c.requires.fact.0 c.args.q c.args.delta first here c.loop-taken.taken.sink c.loop-taken.invariant.0,
-        );
+        amid_in_phase table c.requires.fact.0 c.args.delta first here amid,
+        amid_node table c.requires.fact.0 c.args.delta first here amid node chosen,
+        omega (arith, amid_few table c.requires.fact.0 c.args.delta first here amid),
+        going_small table c.requires.fact.0 c.args.q c.args.delta first here c.loop-taken.taken.sink c.loop-taken.invariant.0,
+      );
       fact_2 = (amid_valid table c.requires.fact.0 c.args.delta first here amid, ready);
     }
 

@@ -16,11 +16,11 @@ use Rattle.work.proofs.phases.Goals as goal
 
 pub scale-delta-requires : goal.scale-delta-requires
 scale-delta-requires c =
-        omega (arith, c.requires.fact_2.1, phases_bound _ c.requires.fact.0)
+    omega (arith, c.requires.fact_2.1, phases_bound _ c.requires.fact.0)
 
 pub loop-done-init : goal.loop-done-init
 loop-done-init c =
-        let given = c.args in
+    let given = c.args in
     let T = table_of given.n given.s given.t given.tails.now given.heads.now given.capacities.now in
     let first = first_run T c.requires.fact_2.0 in (
       omega arith,

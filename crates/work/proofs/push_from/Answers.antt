@@ -13,8 +13,8 @@ use Rattle.work.proofs.push_from.Goals as goal
 
 pub push-requires : goal.push-requires
 push-requires c =
-        let given = c.args in
-        let heads = given.heads.now in
+    let given = c.args in
+    let heads = given.heads.now in
     let long = length_excess given.n given.work.now c.requires.arc_rows.1 in record {
       by_index = subst⁻¹ (λ (m : ℕ). (rest : List ℕ) × ArcRows m given.tails.now rest given.capacities.now × (given.j ≡ far (table_of m given.s given.t given.tails.now rest given.capacities.now) given.i given.k)) long
           (heads, c.requires.arc_rows.0, c.requires.fact.3);
@@ -24,7 +24,7 @@ push-requires c =
 
 pub returns : goal.returns
 returns c =
-            let given = c.args in
+    let given = c.args in
     let size = c.push.auto.excess ∙ length_excess given.n given.work.now c.requires.arc_rows.1 in
     let new = c.push.new.excess in
     let told = c.push.ensures given.n given.heads.now (labels_part given.n given.work.now) c.requires.fact.3 in record {

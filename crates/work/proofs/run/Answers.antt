@@ -4,4 +4,4 @@ use Rattle.work.proofs.run.Goals as goal
 
 pub returns : goal.returns
 returns c =
-            ran_whole _ c.requires.0 _ c.run_until-stop.result _ _ c.run_until-stop.ensures
+    ran_whole _ c.requires.0 _ c.run_until-stop.result _ _ c.run_until-stop.ensures

@@ -20,17 +20,17 @@ use Rattle.work.proofs.run_until.Goals as goal
 
 pub begin-requires : goal.begin-requires
 begin-requires c = record {
-      arc_rows = c.requires.0.rows;
-      n_in_bounds = (omega (arith, c.requires.1.room), c.requires.2);
-    }
+  arc_rows = c.requires.0.rows;
+  n_in_bounds = (omega (arith, c.requires.1.room), c.requires.2);
+}
 
 pub clear_looked-requires : goal.clear_looked-requires
 clear_looked-requires c =
-            (c.requires.0.rows.ends.few_nodes, omega (arith, c.requires.1.room, c.begin.auto.work))
+    (c.requires.0.rows.ends.few_nodes, omega (arith, c.requires.1.room, c.begin.auto.work))
 
 pub count_phases-count-requires : goal.count_phases-count-requires
 count_phases-count-requires c =
-        omega (arith, c.requires.1.room, c.begin.auto.work, c.clear_looked.auto.work)
+    omega (arith, c.requires.1.room, c.begin.auto.work, c.clear_looked.auto.work)
 
 pub value-sink-requires : goal.value-sink-requires
 value-sink-requires c =

@@ -17,12 +17,12 @@ use Rattle.work.proofs.search_list.Goals as goal
 
 pub node_ends-requires : goal.node_ends-requires
 node_ends-requires c =
-            (table_of c.args.n c.requires.by_index.0 c.requires.by_index.1 c.args.tails.now c.args.heads.now c.args.capacities.now, c.requires.by_index.2, refl, c.requires.arc_rows.2, c.requires.by_index.4)
+    (table_of c.args.n c.requires.by_index.0 c.requires.by_index.1 c.args.tails.now c.args.heads.now c.args.capacities.now, c.requires.by_index.2, refl, c.requires.arc_rows.2, c.requires.by_index.4)
 
 pub search-requires : goal.search-requires
 search-requires c =
-                let given = c.args in
-        let table = table_of given.n c.requires.by_index.0 c.requires.by_index.1 given.tails.now given.heads.now given.capacities.now in
+    let given = c.args in
+    let table = table_of given.n c.requires.by_index.0 c.requires.by_index.1 given.tails.now given.heads.now given.capacities.now in
     let long = length_labels given.n given.work.now (omega (arith, c.requires.by_index.2.room)) in
     let same = c.node_list.ensures table c.requires.by_index.2 refl refl in
     let are = c.node_ends.ensures table c.requires.by_index.2 refl c.requires.by_index.4 in
@@ -32,14 +32,14 @@ search-requires c =
       tails_len = (sym c.requires.arc_rows.0.capacities_long, c.requires.arc_rows.1);
       node = subst⁻¹ (λ (m : ℕ). Node m given.i × Beside (length given.capacities.now) m c.node_list.result.now c.node_ends.result.now) long (c.requires.arc_rows.2, stand);
       from_in_bounds = (
-          omega (arith, c.at_node.ensures, ap (λ (l : List ℕ). length l) same, c.requires.by_index.3.within given.i c.requires.arc_rows.2),
-          omega (arith, ap (λ (l : List ℕ). length l) same, list_short table given.i c.requires.arc_rows.0),
-        );
+        omega (arith, c.at_node.ensures, ap (λ (l : List ℕ). length l) same, c.requires.by_index.3.within given.i c.requires.arc_rows.2),
+        omega (arith, ap (λ (l : List ℕ). length l) same, list_short table given.i c.requires.arc_rows.0),
+      );
     }
 
 pub returns : goal.returns
 returns c s t known ends_are looked =
-                    let given = c.args in
+    let given = c.args in
     let table = table_of given.n s t given.tails.now given.heads.now given.capacities.now in
     let st = state_in given.n given.flow.now given.work.now in
     let same = c.node_list.ensures table known refl refl in

@@ -7,11 +7,11 @@ use Rattle.work.proofs.set_label.Goals as goal
 
 pub set_node-requires : goal.set_node-requires
 set_node-requires c =
-        subst⁻¹ (λ (m : ℕ). Node m c.args.i) (length_labels c.args.n c.args.work.now c.requires.0) c.requires.1
+    subst⁻¹ (λ (m : ℕ). Node m c.args.i) (length_labels c.args.n c.args.work.now c.requires.0) c.requires.1
 
 pub returns : goal.returns
 returns c =
-            let given = c.args in
+    let given = c.args in
     let size = c.set_node.auto.row ∙ length_labels given.n given.work.now c.requires.0 in
     let new = c.set_node.new.row in record {
       work_value = labels_excess given.n given.work.now new c.requires.0 size;

@@ -5,8 +5,8 @@ use Rattle.work.proofs.set_looked.Goals as goal
 
 pub returns : goal.returns
 returns c =
-            let given = c.args in
-        let size = c.set_node.auto.row ∙ length_looked given.n given.work.now c.requires.1 in
+    let given = c.args in
+    let size = c.set_node.auto.row ∙ length_looked given.n given.work.now c.requires.1 in
     let new = c.set_node.new.row in record {
       work_value = looked_excess given.n given.work.now new c.requires.1 size;
       work_value_2 = looked_labels given.n given.work.now new c.requires.1 size;

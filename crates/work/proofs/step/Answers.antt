@@ -20,9 +20,9 @@ use Rattle.work.proofs.step.Goals as goal
 
 pub search_list-requires : goal.search_list-requires
 search_list-requires c = record {
-      arc_rows = (c.requires.arc_rows.0, c.requires.in_phase.0.within, c.requires.in_phase.1);
-      by_index = (c.args.s, c.args.t, c.requires.arc_rows.1, c.requires.fact.1, c.requires.arc_rows.2);
-    }
+  arc_rows = (c.requires.arc_rows.0, c.requires.in_phase.0.within, c.requires.in_phase.1);
+  by_index = (c.args.s, c.args.t, c.requires.arc_rows.1, c.requires.fact.1, c.requires.arc_rows.2);
+}
 
 pub push_from-full-requires : goal.push_from-full-requires
 push_from-full-requires c =
@@ -41,24 +41,24 @@ push_from-full-requires c =
 
 pub set_looked-requires : goal.set_looked-requires
 set_looked-requires c =
-            (c.requires.arc_rows.0.ends.few_nodes, omega (arith, c.requires.arc_rows.1.room, c.push_from-full.auto.work), c.requires.in_phase.1)
+    (c.requires.arc_rows.0.ends.few_nodes, omega (arith, c.requires.arc_rows.1.room, c.push_from-full.auto.work), c.requires.in_phase.1)
 
 pub count_push-requires : goal.count_push-requires
 count_push-requires c = c.requires.in_phase.2
 
 pub label_from_list-found-requires : goal.label_from_list-found-requires
 label_from_list-found-requires c = record {
-      arc_rows = (c.requires.arc_rows.0, c.requires.in_phase.0.within, c.requires.in_phase.1);
-      by_index = (c.args.s, c.args.t, c.requires.arc_rows.1, c.requires.arc_rows.2);
-    }
+  arc_rows = (c.requires.arc_rows.0, c.requires.in_phase.0.within, c.requires.in_phase.1);
+  by_index = (c.args.s, c.args.t, c.requires.arc_rows.1, c.requires.arc_rows.2);
+}
 
 pub set_label-requires : goal.set_label-requires
 set_label-requires c =
-        (omega (arith, c.requires.arc_rows.1.room), c.requires.in_phase.1)
+    (omega (arith, c.requires.arc_rows.1.room), c.requires.in_phase.1)
 
 pub set_looked-requires-in-End : goal.set_looked-requires-in-End
 set_looked-requires-in-End c =
-            (c.requires.arc_rows.0.ends.few_nodes, omega (arith, c.requires.arc_rows.1.room, c.set_label.auto.work), c.requires.in_phase.1)
+    (c.requires.arc_rows.0.ends.few_nodes, omega (arith, c.requires.arc_rows.1.room, c.set_label.auto.work), c.requires.in_phase.1)
 
 pub count_relabel-requires : goal.count_relabel-requires
 count_relabel-requires c = c.requires.in_phase.2

@@ -13,14 +13,14 @@ use Rattle.work.proofs.turn.Goals as goal
 
 pub excess_at-had-requires : goal.excess_at-had-requires
 excess_at-had-requires c =
-        (omega (arith, c.requires.arc_rows.1.room), c.requires.fact.1)
+    (omega (arith, c.requires.arc_rows.1.room), c.requires.fact.1)
 
 pub step-done-requires : goal.step-done-requires
 step-done-requires c = record {
-      arc_rows = c.requires.arc_rows;
-      in_phase = (c.requires.fact.0, c.requires.fact.1, c.requires.fact.2);
-      fact = (c.requires.fact_2.0, c.requires.fact_2.1.lists);
-    }
+  arc_rows = c.requires.arc_rows;
+  in_phase = (c.requires.fact.0, c.requires.fact.1, c.requires.fact.2);
+  fact = (c.requires.fact_2.0, c.requires.fact_2.1.lists);
+}
 
 pub next_choice-next-requires : goal.next_choice-next-requires
 next_choice-next-requires c =
@@ -46,10 +46,10 @@ next_choice-next-requires c =
 
 pub excess_at-has-requires : goal.excess_at-has-requires
 excess_at-has-requires c =
-        (omega (arith, c.requires.arc_rows.1.room, c.step-done.auto.work), c.requires.fact.1)
+    (omega (arith, c.requires.arc_rows.1.room, c.step-done.auto.work), c.requires.fact.1)
 
 pub brought-requires : goal.brought-requires
-brought-requires c =
+brought-requires c e =
     let table : Table = table_of c.args.n c.args.s c.args.t c.args.tails.now c.args.heads.now c.args.capacities.now in
     let first : Run = run_in c.args.n c.args.flow.now c.args.work.now c.args.tally.counts in
     let work_then : List ℕ = c.step-done.new.work in
@@ -74,7 +74,7 @@ returns c =
     record {
       counts_value = stepped.is;
       sink_value = ap (λ (x : ℕ). c.args.tally.sink + x)
-            (c.brought.ensures.0 ∙ ap₂ (brought c.args.t c.step-done.result.other) had_is has_is ∙ stepped.brings);
+          (c.brought.ensures.0 ∙ ap₂ (brought c.args.t c.step-done.result.other) had_is has_is ∙ stepped.brings);
       ready = record { lists = stepped.looked_on; chose = c.next_choice-next.ensures };
       same_lists = c.step-done.ensures.same_lists;
     }
