@@ -1,5 +1,6 @@
 // Going on from a flow along chains of fewest residual arcs, each filled by its least residual, until the sink can't be reached.
 #![tactic(auto)]
+
 ghost use Rattle.std.specs.Prelude.{ℕ, ◌+◌, ◌-◌, ◌≤◌, ◌<◌, min, ◌≡◌, cond, ◌⊎◌, length, get_or, set, replicate, eqb};
 ghost use Rattle.rows.specs.Row.{at_node, Node};
 ghost use Rattle.arcs.specs.Work.{InWork};
@@ -537,7 +538,7 @@ fn extend(
     requires ready { Ready n s t tails.now heads.now capacities.now minimums.now flow.old }
     requires in_work { InWork (ends_of n tails.now heads.now capacities.now) work.now }
     requires lowest_len { (length lowest.old ≡ n) × (length far.old ≡ n) × (n ≤ length chain.old) }
-    requires known_2 { Known (given_ways tails heads capacities minimums flow) n t dist.old lowest.old far.old }
+    requires known_2 { Known (row_ways tails.now heads.now capacities.now minimums.now flow.old) n t dist.old lowest.old far.old }
     ensures row { Extended (lent_network n s t tails heads capacities minimums) flow.old flow.new result }
     ensures known { Known (row_ways tails.now heads.now capacities.now minimums.now flow.new) n t dist.new lowest.new far.new }
 {

@@ -10,9 +10,9 @@ use Rattle.augment.proofs.extend.Goals as goal
 
 pub returns-then-least-eq0 : goal.returns-then-least-eq0
 returns-then-least-eq0 c = record {
-      row = extend_stops c.requires.ready c.find-least.ensures c.if-least-eq0.true;
-      known = c.find-least.ensures.known;
-    }
+  row = extend_stops c.requires.ready c.find-least.ensures c.if-least-eq0.true;
+  known = c.find-least.ensures.known;
+}
 
 pub overflow_sub-count : goal.overflow_sub-count
 overflow_sub-count c = let hs = c.requires.ready.source in search rules
@@ -37,10 +37,10 @@ pub fill-requires : goal.fill-requires
 fill-requires c =
     let some : 0 < c.find-least.result = let ne = c.if-least-eq0.false in omega arith in
     let l = some in
-    let the_facts = (c.requires.ready.rows, part_fits c.requires.ready (extend_goes c.requires.ready c.find-least.ensures l) (extend_chain c.requires.ready c.find-least.ensures l) (extend_least c.requires.ready c.find-least.ensures l)) in record {
-      rows = the_facts.0;
-      fits = the_facts.1.0;
-      d_nonzero = the_facts.1.1;
+    let part = part_fits c.requires.ready (extend_goes c.requires.ready c.find-least.ensures l) (extend_chain c.requires.ready c.find-least.ensures l) (extend_least c.requires.ready c.find-least.ensures l) in record {
+      rows = c.requires.ready.rows;
+      fits = part.0;
+      d_nonzero = part.1;
     }
 
 pub returns : goal.returns

@@ -13,7 +13,7 @@ overflow_cast-k c = omega (arith, c.type_inv.chain c.loop-p.p)
 
 pub move_at-requires : goal.move_at-requires
 move_at-requires c =
-        let so = c.loop-p.invariant in
+    let so = c.loop-p.invariant in
     let on = c.loop-p-test.true in
     let here = (poured_head _ _ _ _ _ _ _ _ so on).0 in record {
       k_in_bounds = (omega (arith, here, c.requires.rows.arcs.capacities_long), omega (arith, here, c.requires.rows.flow_long, so.long));

@@ -11,7 +11,7 @@ loop-left-init c = ((refl, refl, refl, refl), c.requires.known)
 
 pub attempt-least-requires : goal.attempt-least-requires
 attempt-least-requires c =
-        let inv = c.loop-left.invariant in record {
+    let inv = c.loop-left.invariant in record {
       ready = c.requires.ready;
       in_work = c.requires.in_work;
       lowest_len = (inv.0.1 ∙ c.requires.lowest_len.0, inv.0.2 ∙ c.requires.lowest_len.1, omega (arith, inv.0.3, c.requires.lowest_len.2));
@@ -56,12 +56,12 @@ returns-then-n-dist c = far_finds c.requires.ready c.attempt-least.ensures.known
 
 pub loop-left-preserved : goal.loop-left-preserved
 loop-left-preserved c =
-        let inv = c.loop-left.invariant in
+    let inv = c.loop-left.invariant in
     ((c.attempt-least.auto.dist ∙ inv.0.0, c.attempt-least.auto.lowest ∙ inv.0.1, c.attempt-least.auto.far ∙ inv.0.2, c.attempt-least.auto.chain ∙ inv.0.3), c.attempt-least.ensures.known)
 
 pub measure_anew-requires : goal.measure_anew-requires
 measure_anew-requires c =
-        let inv = c.loop-left.invariant in record {
+    let inv = c.loop-left.invariant in record {
       rows = c.requires.ready.rows;
       in_work = c.requires.in_work;
       node = (c.requires.ready.sink, inv.1.labels.long, omega (arith, inv.0.3, c.requires.lowest_len.2));
@@ -69,7 +69,7 @@ measure_anew-requires c =
 
 pub walk-walked-requires : goal.walk-walked-requires
 walk-walked-requires c =
-        let inv = c.loop-left.invariant in record {
+    let inv = c.loop-left.invariant in record {
       ready = c.requires.ready;
       in_work = c.requires.in_work;
       lowest_len = (c.measure_anew.auto.lowest ∙ inv.0.1 ∙ c.requires.lowest_len.0, inv.0.2 ∙ c.requires.lowest_len.1, omega (arith, c.measure_anew.auto.todo, inv.0.3, c.requires.lowest_len.2));
@@ -90,6 +90,6 @@ shape_of-chain c = c.walk-walked.auto.chain ∙ c.measure_anew.auto.todo ∙ c.l
 
 pub returns : goal.returns
 returns c =
-        let inv = c.loop-left.invariant in
-        let known = measured_known (rows_ends c.requires.ready.rows) c.requires.ready.sink {far = c.loop-left.far} c.measure_anew.ensures.labels c.measure_anew.ensures.none (inv.0.1 ∙ c.requires.lowest_len.0) in
+    let inv = c.loop-left.invariant in
+    let known = measured_known (rows_ends c.requires.ready.rows) c.requires.ready.sink {far = c.loop-left.far} c.measure_anew.ensures.labels c.measure_anew.ensures.none (inv.0.1 ∙ c.requires.lowest_len.0) in
     walk_decides c.requires.ready known c.walk-walked.ensures.walked c.measure_anew.ensures.labels

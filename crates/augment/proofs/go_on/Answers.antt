@@ -15,7 +15,7 @@ slice_bounds-go_on_with-end-3 c = sym (length-take-le _ (replicate 514 0) c.requ
 
 pub go_on_with-requires : goal.go_on_with-requires
 go_on_with-requires c =
-        let few = c.requires.ready.rows.arcs.ends.few_nodes in record {
+    let few = c.requires.ready.rows.arcs.ends.few_nodes in record {
       ready = c.requires.ready;
       in_work = c.requires.in_work;
       dist_len = (length-take-le _ (replicate 514 0) few, length-take-le _ (replicate 514 0) few, length-take-le _ (replicate 514 0) few, few);

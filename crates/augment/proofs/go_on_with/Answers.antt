@@ -8,18 +8,18 @@ use Rattle.augment.proofs.go_on_with.Goals as goal
 
 pub measure_anew-requires : goal.measure_anew-requires
 measure_anew-requires c = record {
-      rows = c.requires.ready.rows;
-      in_work = c.requires.in_work;
-      node = (c.requires.ready.sink, c.requires.dist_len.0, c.requires.dist_len.3);
-    }
+  rows = c.requires.ready.rows;
+  in_work = c.requires.in_work;
+  node = (c.requires.ready.sink, c.requires.dist_len.0, c.requires.dist_len.3);
+}
 
 pub loop-init : goal.loop-init
 loop-init c =
-            ((refl, refl, refl, refl, refl), (c.requires.ready, refl), measured_known (rows_ends c.requires.ready.rows) c.requires.ready.sink c.measure_anew.ensures.labels c.measure_anew.ensures.none c.requires.dist_len.1)
+    ((refl, refl, refl, refl, refl), (c.requires.ready, refl), measured_known (rows_ends c.requires.ready.rows) c.requires.ready.sink c.measure_anew.ensures.labels c.measure_anew.ensures.none c.requires.dist_len.1)
 
 pub extend-requires : goal.extend-requires
 extend-requires c =
-            let inv = c.loop.invariant in record {
+    let inv = c.loop.invariant in record {
       ready = inv.1.0;
       in_work = c.requires.in_work;
       lowest_len = (inv.0.2 ∙ c.measure_anew.auto.lowest ∙ c.requires.dist_len.1, inv.0.3 ∙ c.requires.dist_len.2, omega (arith, inv.0.4, c.measure_anew.auto.todo, c.requires.dist_len.3));
@@ -31,7 +31,7 @@ loop-smaller c = go_on_less c.loop.invariant.1.0 c.extend.ensures.row c.loop-tes
 
 pub loop-preserved : goal.loop-preserved
 loop-preserved c =
-        let inv = c.loop.invariant in (
+    let inv = c.loop.invariant in (
       (c.extend.auto.flow ∙ inv.0.0, c.extend.auto.dist ∙ inv.0.1, c.extend.auto.lowest ∙ inv.0.2, c.extend.auto.far ∙ inv.0.3, c.extend.auto.chain ∙ inv.0.4),
       (go_on_ready inv.1.0 c.extend.ensures.row c.loop-test.true, go_on_same inv.1.0 c.extend.ensures.row c.loop-test.true ∙ inv.1.1),
       c.extend.ensures.known,

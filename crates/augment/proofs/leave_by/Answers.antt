@@ -18,8 +18,8 @@ leads_at-requires c = (rows_kept c.requires.rows c.requires.dist_len.0, c.if-not
 
 pub returns-then-leads_at : goal.returns-then-leads_at
 returns-then-leads_at c =
-        let given = c.args in
-        let here = c.if-noted-capacities.true in record {
+    let given = c.args in
+    let here = c.if-noted-capacities.true in record {
       place = noted_lowest c.requires.noted_2 given.d given.i _ c.requires.dist_len.3 c.requires.dist_len.4 refl here (sym c.leads_at.ensures ∙ c.if-leads_at.true);
       noted = c.requires.noted_2;
       far = λ _. noted_far c.requires.noted_2 given.d given.i _ c.requires.dist_len.3 c.requires.dist_len.4 refl here;
@@ -27,7 +27,7 @@ returns-then-leads_at c =
 
 pub node_list-list-requires : goal.node_list-list-requires
 node_list-list-requires c =
-        let given = c.args in
+    let given = c.args in
     (ends_of given.n given.tails.now given.heads.now given.capacities.now, c.requires.in_work, refl, refl, c.requires.dist_len.3)
 
 pub next_place-k-requires : goal.next_place-k-requires
@@ -46,7 +46,7 @@ overflow_cast-lowest c =
 
 pub returns-then-capacities-k : goal.returns-then-capacities-k
 returns-then-capacities-k c =
-        let given = c.args in record {
+    let given = c.args in record {
       place = c.next_place-k.ensures;
       noted = nowhere_noted c.requires.noted_2 given.d given.i _ c.requires.dist_len.3 c.requires.dist_len.4 c.requires.dist_len.1 c.if-capacities-k.true;
       far = λ here. absurd (omega (arith, here, c.if-capacities-k.true));
@@ -60,7 +60,7 @@ bounds-far-at c = omega (arith, c.requires.dist_len.2, c.requires.dist_len.3)
 
 pub returns : goal.returns
 returns c =
-        let given = c.args in record {
+    let given = c.args in record {
       place = c.next_place-k.ensures;
       noted = lowest_noted c.requires.noted_2 given.d given.i _ c.requires.dist_len.3 c.requires.dist_len.4 c.requires.dist_len.1 c.requires.dist_len.2 c.next_place-k.ensures c.far_at.ensures;
       far = λ _. far_noted c.requires.noted_2 given.d given.i 0 c.requires.dist_len.3 c.requires.dist_len.4 c.requires.dist_len.1 c.requires.dist_len.2 ∙ c.far_at.ensures;

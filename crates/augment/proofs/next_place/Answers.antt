@@ -17,9 +17,9 @@ overflow_cast-k c = omega (arith, c.type_inv.list c.loop-p.p)
 
 pub leads_past-requires : goal.leads_past-requires
 leads_past-requires c = record {
-      rows = (c.requires.rows, c.requires.list_of.each c.loop-p.p c.loop-p-test.true);
-      none_below = c.requires.none_below;
-    }
+  rows = (c.requires.rows, c.requires.list_of.each c.loop-p.p c.loop-p-test.true);
+  none_below = c.requires.none_below;
+}
 
 pub returns-then-leads_past : goal.returns-then-leads_past
 returns-then-leads_past c =

@@ -8,12 +8,12 @@ use Rattle.augment.proofs.relabel.Goals as goal
 
 pub node_list-list-requires : goal.node_list-list-requires
 node_list-list-requires c =
-        let given = c.args in
+    let given = c.args in
     (ends_of given.n given.tails.now given.heads.now given.capacities.now, c.requires.in_work, refl, refl, c.requires.labelled.1)
 
 pub rise_to-label-requires : goal.rise_to-label-requires
 rise_to-label-requires c =
-        let given = c.args in
+    let given = c.args in
     let ends = ends_of given.n given.tails.now given.heads.now given.capacities.now in
     let ways = row_ways given.tails.now given.heads.now given.capacities.now given.minimums.now given.flow.now in record {
       rows = c.requires.rows;

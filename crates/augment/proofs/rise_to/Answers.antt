@@ -13,7 +13,7 @@ overflow_cast-list c = omega (arith, c.type_inv.list c.loop-p.p)
 
 pub rise_over-over-requires : goal.rise_over-over-requires
 rise_over-over-requires c =
-            let taken = c.loop-p-test.true in record {
+    let taken = c.loop-p-test.true in record {
       rows = c.requires.rows;
       labelled = c.requires.labelled;
       k_in_bounds = (c.requires.list_of.each c.loop-p.p taken, c.requires.list_of.touching c.loop-p.p taken);

@@ -17,7 +17,7 @@ loop-d-init c = walking_start _ _ _ _ _ _ c.requires.ready.source c.requires.low
 
 pub leave_by-k-requires : goal.leave_by-k-requires
 leave_by-k-requires c =
-        let so = c.loop-d.invariant in record {
+    let so = c.loop-d.invariant in record {
       rows = c.requires.ready.rows;
       in_work = c.requires.in_work;
       dist_len = (c.requires.known.labels.long, so.lowest_long, so.far_long, so.node, omega (arith, so.at, c.loop-d-test.true));
@@ -35,7 +35,7 @@ shape_of-chain-then-capacities-k c = c.loop-d.invariant.long
 
 pub returns-then-capacities-k : goal.returns-then-capacities-k
 returns-then-capacities-k c =
-        let so = c.loop-d.invariant in
+    let so = c.loop-d.invariant in
     let more = c.loop-d-test.true in record {
       walked = walking_stuck (rows_ends c.requires.ready.rows) so more c.leave_by-k.ensures.place c.if-capacities-k.true c.leave_by-k.ensures.noted;
       dead_end = λ _. (so.node, omega (arith, so.at, more));
@@ -46,7 +46,7 @@ overflow_cast-chain c = let arcs = c.requires.ready.rows.arcs in omega (arith, c
 
 pub offset_bounds-chain-p : goal.offset_bounds-chain-p
 offset_bounds-chain-p c =
-        omega (
+    omega (
       arith,
       c.loop-d.invariant.count,
       c.loop-d-test.true,
@@ -56,7 +56,7 @@ offset_bounds-chain-p c =
 
 pub bounds-chain-p : goal.bounds-chain-p
 bounds-chain-p c =
-        let so = c.loop-d.invariant in
+    let so = c.loop-d.invariant in
     omega (arith, so.count, so.long, c.loop-d-test.true, c.requires.lowest_len.2, (source_label c.requires.ready c.requires.known.labels).1)
 
 pub residual_at-requires : goal.residual_at-requires
@@ -76,7 +76,7 @@ bounds-far-at c =
 
 pub overflow_add-p : goal.overflow_add-p
 overflow_add-p c =
-        omega (
+    omega (
       arith,
       c.loop-d.invariant.count,
       c.loop-d-test.true,
@@ -86,9 +86,9 @@ overflow_add-p c =
 
 pub loop-d-preserved : goal.loop-d-preserved
 loop-d-preserved c =
-        let given = c.args in
+    let given = c.args in
     let so = c.loop-d in
-        let here = c.if-capacities-k.false in
+    let here = c.if-capacities-k.false in
     walking_turn (rows_ends c.requires.ready.rows) so.invariant c.loop-d-test.true c.leave_by-k.ensures.place
     (omega (arith, c.requires.lowest_len.2, (source_label c.requires.ready c.requires.known.labels).1)) here c.leave_by-k.auto.lowest c.leave_by-k.auto.far c.leave_by-k.ensures.noted
     (c.residual_at.ensures ∙ residual_picked (bound_network given.n given.s given.t given.tails.now given.heads.now given.capacities.now given.minimums.now) given.flow.now 0 so.i c.leave_by-k.result)
@@ -105,7 +105,7 @@ shape_of-chain c = c.loop-d.invariant.long
 
 pub returns : goal.returns
 returns c =
-        let so = c.loop-d.invariant in
+    let so = c.loop-d.invariant in
     let low = c.requires.known.labels in
     let end : c.loop-d.d ≡ 0 = omega (arith, c.loop-d-test.false) in
     let done = walking_done so end c.requires.ready.valid (λ k. omega (arith, c.type_inv.capacities k)) (source_label c.requires.ready low).0 in record {

@@ -3,4 +3,4 @@ use Rattle.opening.proofs.Going.{answer_is}
 use Rattle.opening.proofs.answer_of.Goals as goal
 
 pub returns : goal.returns
-returns c = answer_is _ _ _ c.wrapping_add_u32.ensures
+returns c = answer_is _ _ _ c.wrapping_add_u32.ensures.value

@@ -2,4 +2,4 @@
 use Rattle.smaller.proofs.raise_stamp.Goals as goal
 
 pub returns : goal.returns
-returns c = c.wrapping_add_u32.ensures
+returns c = c.wrapping_add_u32.ensures.value
