@@ -1,5 +1,6 @@
 // Solving and reading by place on numbers and byte rows, for the booking server (document 02, CR 4).
 #![tactic(auto)]
+
 ghost use Rattle.std.specs.Prelude.{◌≡◌, ◌++◌, ◌+◌, ◌*◌, ◌/◌, ◌^◌, ◌≤◌, ◌<◌, length, take, drop};
 ghost use Rattle.little.specs.Little.{bytes_of_all};
 ghost use Rattle.table.specs.Table.{table_of, lent_table, given_table};

@@ -1,5 +1,6 @@
 // Document 02, CR 11: solves a table whose arcs have a least flow: a flow of greatest value among those that keep every arc between its two numbers.
 #![tactic(auto)]
+
 ghost use Rattle.std.specs.Prelude.{◌≡◌, ◌++◌, ℕ, ◌+◌, ◌-◌, ◌≤◌, ◌<◌, pos, ◌-ℤ◌, length, drop};
 ghost use Rattle.rows.specs.Row.{at_place, by_place};
 ghost use Rattle.start.specs.Sums.{sum_at};

@@ -1,5 +1,6 @@
 // Document 02, CR 3: show who sits where. Solves a table and lists its chains from source to sink, and its rings.
 #![tactic(auto)]
+
 ghost use Rattle.std.specs.Prelude.{◌≡◌, ◌≤◌, length};
 ghost use Rattle.rows.specs.Row.{Node};
 ghost use Rattle.solver.specs.Solving.{GivenRoom};

@@ -1,5 +1,6 @@
 // Document 02, CR 11: whether some flow keeps all arcs between their numbers.
 #![tactic(auto)]
+
 ghost use Rattle.std.specs.Prelude.{◌≡◌, ◌≤◌, length, replicate};
 ghost use Rattle.arcs.specs.Work.{work_end};
 ghost use Rattle.minimums.specs.BoundedTable.{given_bounded, lent_bounded, AcceptedBounded};

@@ -1,5 +1,6 @@
 // A month in one call (document 02, CR 10): up to 31 day tables whose arcs are joined in shared rows, each solved as if given by itself, with the sums.
 #![tactic(auto)]
+
 ghost use Rattle.std.specs.Prelude.{◌≡◌, ℕ, ◌+◌, ◌≤◌, ◌<◌, length, get_or};
 ghost use Rattle.rows.specs.Row.{part};
 ghost use Rattle.parts.specs.Placed.{placed};

@@ -1,5 +1,6 @@
 // Document 02, CR 13: which opening would help. The places whose arc, raised by one unit, would raise the value by one; the source side; the nodes that reach the sink.
 #![tactic(auto)]
+
 ghost use Rattle.std.specs.Prelude.{◌≡◌, true, ◌&&◌, ◌≤◌, ◌<◌, length, take};
 ghost use Rattle.rows.specs.Row.{Node};
 ghost use Rattle.table.specs.Table.{lent_table, given_table};

@@ -1,5 +1,6 @@
 // Is there room for at least this many (document 02, CR 7)? The question's code.
 #![tactic(auto)]
+
 ghost use Rattle.std.specs.Prelude.{◌≡◌, cond, ◌^◌, ◌≤◌, ◌<◌, leb, length};
 ghost use Rattle.table.specs.Table.{lent_table, given_table};
 ghost use Rattle.table.specs.Accepted.{Accepted};

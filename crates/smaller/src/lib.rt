@@ -1,5 +1,6 @@
 // Document 02, CR 14: the table without the arcs and nodes that can't matter, solved, and its flow put back.
 #![tactic(auto)]
+
 ghost use Rattle.std.specs.Prelude.{◌≡◌, ◌≤◌, ◌&&◌, ◌++◌, length, take, drop, replicate};
 ghost use Rattle.rows.specs.Row.{by_place, cleared};
 ghost use Rattle.table.specs.Table.{table_of, lent_table, given_table};

@@ -1,5 +1,6 @@
 // Solving: the room that it asks for; and of an accepted table with room the nodes' lists, the run, the value and the side.
 #![tactic(auto)]
+
 ghost use Rattle.std.specs.Prelude.{◌≡◌, ◌++◌, ◌^◌, ◌≤◌, ◌<◌, length, take, drop};
 ghost use Rattle.rows.specs.Row.{cleared};
 ghost use Rattle.table.specs.Table.{lent_table, given_table};

@@ -1,5 +1,6 @@
 // The sums of a month's days: the tables solved, the total value and the first solved day of least value.
 #![tactic(auto)]
+
 ghost use Rattle.std.specs.Prelude.{◌≡◌, ◌+◌, ◌^◌, ◌<◌};
 ghost use Rattle.tally.specs.Sums.{is_lower, counted, tallied};
 

@@ -9,5 +9,5 @@ returns-then-r-ne0 c =
 
 pub returns : goal.returns
 returns c =
-            let given = c.args in
+    let given = c.args in
     tells_reading given.r given.result.now c.if-r-ne0.false c.write_reading.ensures

@@ -18,13 +18,13 @@ returns-then-not-has_byte_room c =
 
 pub read_arcs-found-requires : goal.read_arcs-found-requires
 read_arcs-found-requires c = record {
-      t_value = c.requires;
-      arcs_in_bounds = (roomy 24 _ _ _ _ _ (sym c.has_byte_room.ensures ∙ c.if-not-has_byte_room.false)).0;
-    }
+  t_value = c.requires;
+  arcs_in_bounds = (roomy 24 _ _ _ _ _ (sym c.has_byte_room.ensures ∙ c.if-not-has_byte_room.false)).0;
+}
 
 pub tell-requires : goal.tell-requires
 tell-requires c =
-        (roomy 24 _ _ _ _ _ (sym c.has_byte_room.ensures ∙ c.if-not-has_byte_room.false)).2
+    (roomy 24 _ _ _ _ _ (sym c.has_byte_room.ensures ∙ c.if-not-has_byte_room.false)).2
 
 pub returns : goal.returns
 returns c =

@@ -13,11 +13,11 @@ slice_bounds-put_all32-end c = sym (length-take-le _ _ c.requires.1)
 
 pub put_all32-requires : goal.put_all32-requires
 put_all32-requires c =
-        let given = c.args in
+    let given = c.args in
     (omega (arith, length-take-le given.m given.flows.now c.requires.1, c.requires.0), omega (arith, length-take-le given.m given.flows.now c.requires.1, c.requires.2))
 
 pub returns : goal.returns
 returns c =
-            let given = c.args in
+    let given = c.args in
     c.put_all32.ensures
     ∙ ap (λ (k : ℕ). bytes_of_all 4 (take given.m given.flows.now) ++ drop (4 * k) given.flow.now) (length-take-le given.m given.flows.now c.requires.1)

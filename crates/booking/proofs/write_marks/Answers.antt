@@ -10,8 +10,8 @@ slice_bounds-store_marks-end c = sym (length-take-le _ _ c.requires.0)
 
 pub store_marks-requires : goal.store_marks-requires
 store_marks-requires c =
-        omega (arith, length-take-le c.args.n c.args.marks.now c.requires.0, c.requires.1)
+    omega (arith, length-take-le c.args.n c.args.marks.now c.requires.0, c.requires.1)
 
 pub returns : goal.returns
 returns c =
-            front_stored _ _ _ _ c.requires.0 c.requires.1 c.store_marks.ensures
+    front_stored _ _ _ _ c.requires.0 c.requires.1 c.store_marks.ensures

@@ -16,17 +16,16 @@ pub overflow_add-flow : goal.overflow_add-flow
 overflow_add-flow c = omega (arith, c.requires.by_index c.loop-k.k (omega arith))
 
 pub loop-k-preserved : goal.loop-k-preserved
-loop-k-preserved c =
-        (
-      omega arith,
-      fill_next (λ j. at_place c.args.more.now j + at_place c.args.minimums.now j) c.args.flow.now c.loop-k.flow c.loop-k.k c.loop-k.invariant.1 _ (omega arith) refl,
-      simp length-set c.loop-k.invariant.2,
-    )
+loop-k-preserved c = (
+  omega arith,
+  fill_next (λ j. at_place c.args.more.now j + at_place c.args.minimums.now j) c.args.flow.now c.loop-k.flow c.loop-k.k c.loop-k.invariant.1 _ (omega arith) refl,
+  simp length-set c.loop-k.invariant.2,
+)
 
 pub shape_of-flow : goal.shape_of-flow
 shape_of-flow c = c.loop-k.invariant.2
 
 pub returns : goal.returns
 returns c =
-        let all : c.loop-k.k ≡ length c.args.minimums.now = omega arith in
+    let all : c.loop-k.k ≡ length c.args.minimums.now = omega arith in
     rw (← all) c.loop-k.invariant.1

@@ -11,13 +11,13 @@ add_minimums-requires c =
 
 pub fill_work-requires : goal.fill_work-requires
 fill_work-requires c =
-            lists_asked c.requires.solvable c.requires.above c.add_minimums.ensures _ c.requires.work_end_in_bounds
+    lists_asked c.requires.solvable c.requires.above c.add_minimums.ensures _ c.requires.work_end_in_bounds
 
 pub go_on-requires : goal.go_on-requires
 go_on-requires c = record {
-      ready = ready c.requires.solvable c.requires.above c.add_minimums.ensures;
-      in_work = c.fill_work.ensures.listed 0 0 c.args.capacities.now c.requires.solvable.accepted.rows.arcs.capacities_long;
-    }
+  ready = ready c.requires.solvable c.requires.above c.add_minimums.ensures;
+  in_work = c.fill_work.ensures.listed 0 0 c.args.capacities.now c.requires.solvable.accepted.rows.arcs.capacities_long;
+}
 
 pub take_minimums-requires : goal.take_minimums-requires
 take_minimums-requires c =
@@ -28,7 +28,7 @@ take_minimums-requires c =
 
 pub mark-requires : goal.mark-requires
 mark-requires c =
-                        let asked = marks c.requires.solvable c.requires.above c.add_minimums.ensures c.go_on.ensures c.take_minimums.ensures in record {
+    let asked = marks c.requires.solvable c.requires.above c.add_minimums.ensures c.go_on.ensures c.take_minimums.ensures in record {
       arc_rows = asked.0;
       by_index = (0, 0, c.fill_work.ensures.listed 0 0 c.args.spare.now asked.1.0);
       n_in_bounds = asked.1.1;
@@ -36,8 +36,8 @@ mark-requires c =
 
 pub net_out-requires : goal.net_out-requires
 net_out-requires c =
-                sums c.requires.solvable c.requires.above c.add_minimums.ensures c.go_on.ensures
+    sums c.requires.solvable c.requires.above c.add_minimums.ensures c.go_on.ensures
 
 pub returns : goal.returns
 returns c =
-                        leaves c.requires.solvable c.requires.above c.add_minimums.ensures c.go_on.ensures c.take_minimums.ensures (c.mark.ensures c.args.t) c.net_out.ensures
+    leaves c.requires.solvable c.requires.above c.add_minimums.ensures c.go_on.ensures c.take_minimums.ensures (c.mark.ensures c.args.t) c.net_out.ensures

@@ -10,22 +10,22 @@ use Rattle.bounded.proofs.solve_in.Goals as goal
 
 pub join-requires : goal.join-requires
 join-requires c = record {
-      bounded_rows = c.requires.solvable.accepted.rows;
-      from_len = (c.requires.own_rows.from_long, c.requires.own_rows.to_long);
-      limits_len = c.requires.own_rows.limits_long;
-    }
+  bounded_rows = c.requires.solvable.accepted.rows;
+  from_len = (c.requires.own_rows.from_long, c.requires.own_rows.to_long);
+  limits_len = c.requires.own_rows.limits_long;
+}
 
 pub feasible-requires : goal.feasible-requires
 feasible-requires c = record {
-      accepted_bounded = c.requires.solvable.accepted;
-      joined_rows = c.join.ensures;
-      none_value = (c.requires.own_rows.none_empty, c.requires.own_rows.more_empty);
-      work_end_in_bounds = c.requires.own_rows.lists_long;
-    }
+  accepted_bounded = c.requires.solvable.accepted;
+  joined_rows = c.join.ensures;
+  none_value = (c.requires.own_rows.none_empty, c.requires.own_rows.more_empty);
+  work_end_in_bounds = c.requires.own_rows.lists_long;
+}
 
 pub returns-then-not-feasible : goal.returns-then-not-feasible
 returns-then-not-feasible c =
-        (c.feasible.ensures.none c.if-not-feasible.true, (refl, refl))
+    (c.feasible.ensures.none c.if-not-feasible.true, (refl, refl))
 
 pub slice_bounds-greatest-end : goal.slice_bounds-greatest-end
 slice_bounds-greatest-end c =
@@ -37,12 +37,12 @@ slice_bounds-greatest-end-2 c =
 
 pub greatest-value-requires : goal.greatest-value-requires
 greatest-value-requires c = record {
-      solvable = c.requires.solvable;
-      above = above_is c.join.ensures
-            (c.feasible.auto.more ∙ ap length c.requires.own_rows.more_empty ∙ length-replicate _ 0)
-            (c.feasible.ensures.keeps c.if-not-feasible.false);
-      work_end_in_bounds = omega (arith, c.requires.own_rows.lists_long, c.feasible.auto.lists);
-    }
+  solvable = c.requires.solvable;
+  above = above_is c.join.ensures
+      (c.feasible.auto.more ∙ ap length c.requires.own_rows.more_empty ∙ length-replicate _ 0)
+      (c.feasible.ensures.keeps c.if-not-feasible.false);
+  work_end_in_bounds = omega (arith, c.requires.own_rows.lists_long, c.feasible.auto.lists);
+}
 
 pub shape_of-from : goal.shape_of-from
 shape_of-from c = c.join.auto.from
@@ -52,5 +52,5 @@ shape_of-to c = c.join.auto.to
 
 pub returns : goal.returns
 returns c =
-        let best = c.greatest-value.ensures.1 in
+    let best = c.greatest-value.ensures.1 in
     (c.greatest-value.ensures.0, subst (GreatestBounded _ _ _) (sym (read_value best.range)) best)

@@ -12,18 +12,18 @@ loop-k-init c = (search rules, search rules, λ j l h. absurd (omega arith))
 
 pub returns-then-flow-k : goal.returns-then-flow-k
 returns-then-flow-k c =
-        record {
+    record {
       all = λ e. absurd (true≢false (sym e));
       some = λ _. (c.loop-k.k, c.loop-k.invariant.0, omega arith, c.if-flow-k.true);
     }
 
 pub loop-k-preserved : goal.loop-k-preserved
 loop-k-preserved c =
-        (omega arith, omega arith, one_full c.args.capacities.now c.args.flow.now _ c.loop-k.k c.loop-k.invariant.2 c.if-flow-k.false)
+    (omega arith, omega arith, one_full c.args.capacities.now c.args.flow.now _ c.loop-k.k c.loop-k.invariant.2 c.if-flow-k.false)
 
 pub returns : goal.returns
 returns c =
-        record {
+    record {
       all = λ _ k l h. c.loop-k.invariant.2 k l (omega arith);
       some = λ e. absurd (true≢false e);
     }

@@ -13,7 +13,7 @@ returns-then-dist-p c = give_again _ _ _ _ _ c.if-not-may.false (λ e. c.if-dist
 
 pub bounds-todo-count : goal.bounds-todo-count
 bounds-todo-count c =
-        let none = node_at _ _ c.requires.0.0 ∙ c.if-dist-p.false in
+    let none = node_at _ _ c.requires.0.0 ∙ c.if-dist-p.false in
     omega (arith, given_place c.requires.1 c.args.i c.requires.0 none, c.requires.1.places)
 
 pub returns : goal.returns

@@ -20,7 +20,7 @@ bounds-todo-0 c = omega (arith, c.requires.node.0, c.requires.node.2)
 
 pub loop-at-init : goal.loop-at-init
 loop-at-init c =
-        (refl, going_start _ _ _ (rows_ends c.requires.rows) c.requires.node.0 c.args.todo.now (c.reset.ensures ∙ ap (λ l. replicate l c.args.none) c.requires.node.1) c.requires.node.2)
+    (refl, going_start _ _ _ (rows_ends c.requires.rows) c.requires.node.0 c.args.todo.now (c.reset.ensures ∙ ap (λ l. replicate l c.args.none) c.requires.node.1) c.requires.node.2)
 
 pub offset_bounds-todo-at : goal.offset_bounds-todo-at
 offset_bounds-todo-at c =
@@ -112,8 +112,7 @@ loop-at-preserved c =
     let going : Going ways c.args.none c.args.t c.loop-at.at (front c.loop-at.dist c.loop-at.todo c.loop-at.count) = c.loop-at.invariant.1 in
     let level : c.loop-at.at < c.loop-at.count → get_or c.loop-at.dist (get_or c.loop-at.todo c.loop-at.at 0 - 1) 0 + 1 ≡ at_node c.loop-at.dist (at_place c.loop-at.todo c.loop-at.at) + 1 = λ taken. ap (λ x. x + 1) (sym (node_at c.loop-at.dist (at_place c.loop-at.todo c.loop-at.at) (going.node c.loop-at.at taken).0)) in
     let own : c.node_list.result.now ≡ list (ends_of c.args.none c.args.tails.now c.args.heads.now c.args.capacities.now) (at_place c.loop-at.todo c.loop-at.at) = c.node_list.ensures (ends_of c.args.none c.args.tails.now c.args.heads.now c.args.capacities.now) c.requires.in_work refl refl in
-    let taken = c.loop-at-test.true in
-    (
+    let taken = c.loop-at-test.true in (
       c.visit-count.auto.todo ∙ c.loop-at.invariant.0,
       visit_turn _ _ _ ends c.requires.node.0 taken going (level taken)
           (subst⁻¹ (ListOf ways (at_place c.loop-at.todo c.loop-at.at)) own (listed c.requires.rows (at_place c.loop-at.todo c.loop-at.at)))

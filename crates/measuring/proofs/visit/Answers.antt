@@ -12,14 +12,14 @@ loop-p-init c = (search rules, moved_none c.requires.places.1, look_none _ _ _ _
 
 pub look-noted-requires : goal.look-noted-requires
 look-noted-requires c =
-            let moved = c.loop-p.invariant.1 in record {
+    let moved = c.loop-p.invariant.1 in record {
       rows = (c.requires.rows.0, moved.long ∙ c.requires.rows.1, c.requires.places.0 c.loop-p.p c.loop-p-test.true);
       fact = moved.more;
     }
 
 pub loop-p-preserved : goal.loop-p-preserved
 loop-p-preserved c =
-            let turn =
+    let turn =
     look_turn _ _ c.args.d c.args.j (rows_ends c.requires.rows.0) c.args.list.now c.loop-p.p c.requires.rows.1
     (c.requires.places.0 c.loop-p.p c.loop-p-test.true) c.loop-p.invariant.1 c.loop-p.invariant.2 c.look-noted.ensures in
     (search rules, turn.1, turn.0)

@@ -20,15 +20,15 @@ start_of-requires-in-loop-k c = tt
 
 pub loop-k-preserved : goal.loop-k-preserved
 loop-k-preserved c =
-                let given = c.args in (
+    let given = c.args in (
       omega arith,
       elim c.if-start_of.branch [
-        then-start_of w ↦ w.fall-is ∙ falls_here given.starts.now given.end c.loop-k.k c.loop-k.invariant.1 c.start_of.ensures c.start_of-in-loop-k.ensures w.if-start_of.true
+        | then-start_of w ↦ w.fall-is ∙ falls_here given.starts.now given.end c.loop-k.k c.loop-k.invariant.1 c.start_of.ensures c.start_of-in-loop-k.ensures w.if-start_of.true
         | else-start_of w ↦ w.fall-is ∙ rises_here given.starts.now given.end c.loop-k.k c.loop-k.invariant.1 c.start_of.ensures c.start_of-in-loop-k.ensures w.if-start_of.false
       ],
     )
 
 pub returns : goal.returns
 returns c =
-        let given = c.args in
+    let given = c.args in
     c.loop-k.invariant.1 ∙ ap (starts_fall given.starts.now given.end) (omega arith)

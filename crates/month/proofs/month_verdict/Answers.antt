@@ -14,14 +14,14 @@ returns-then-do_rows_differ c = simp (le-ltb _ _ c.if-starts-gt31.false, ← c.d
 pub returns-then-do_fall : goal.returns-then-do_fall
 unfolding verdict_of
 returns-then-do_fall c =
-        simp (le-ltb _ _ c.if-starts-gt31.false, ← c.do_rows_differ.ensures, c.if-do_rows_differ.false, ← c.do_fall.ensures, c.if-do_fall.true)
+    simp (le-ltb _ _ c.if-starts-gt31.false, ← c.do_rows_differ.ensures, c.if-do_rows_differ.false, ← c.do_fall.ensures, c.if-do_fall.true)
 
 pub returns-then-not-has_month_room : goal.returns-then-not-has_month_room
 unfolding verdict_of
 returns-then-not-has_month_room c =
-            simp (le-ltb _ _ c.if-starts-gt31.false, ← c.do_rows_differ.ensures, c.if-do_rows_differ.false, ← c.do_fall.ensures, c.if-do_fall.false, ← c.has_month_room.ensures, c.if-not-has_month_room.true)
+    simp (le-ltb _ _ c.if-starts-gt31.false, ← c.do_rows_differ.ensures, c.if-do_rows_differ.false, ← c.do_fall.ensures, c.if-do_fall.false, ← c.has_month_room.ensures, c.if-not-has_month_room.true)
 
 pub returns : goal.returns
 unfolding verdict_of
 returns c =
-            simp (le-ltb _ _ c.if-starts-gt31.false, ← c.do_rows_differ.ensures, c.if-do_rows_differ.false, ← c.do_fall.ensures, c.if-do_fall.false, ← c.has_month_room.ensures, c.if-not-has_month_room.false)
+    simp (le-ltb _ _ c.if-starts-gt31.false, ← c.do_rows_differ.ensures, c.if-do_rows_differ.false, ← c.do_fall.ensures, c.if-do_fall.false, ← c.has_month_room.ensures, c.if-not-has_month_room.false)

@@ -10,7 +10,7 @@ use Rattle.month.proofs.solve_days.Goals as goal
 
 pub loop-j-init : goal.loop-j-init
 loop-j-init c =
-        let given = c.args in
+    let given = c.args in
     (omega arith, no_day (days_of given.starts.now given.nodes.now given.sources.now given.sinks.now given.stamps.now given.tails.now given.heads.now given.capacities.now given.minimums.now) given.flow.now given.side.now given.work.now given.answers.now c.requires, refl, refl, refl, refl)
 
 pub solve_day-tally-requires : goal.solve_day-tally-requires

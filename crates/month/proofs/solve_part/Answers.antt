@@ -4,5 +4,5 @@ use Rattle.month.proofs.solve_part.Goals as goal
 
 pub returns : goal.returns
 returns c =
-            let given = c.args in
+    let given = c.args in
     parts_left given.a given.e given.at given.flow.now given.side.now _ _ c.requires.a_le_e.0 c.solve_plain.ensures

@@ -9,6 +9,6 @@ use Rattle.month.proofs.write_answer.Goals as goal
 
 pub returns : goal.returns
 returns c =
-            let at = c.args.at in
+    let at = c.args.at in
     put_placed at (at + 9) c.args.answers.now c.write_nine.new.row (omega arith)
     ∙ ap (λ (l : List ℕ). placed at (at + 9) l c.args.answers.now) c.write_nine.ensures

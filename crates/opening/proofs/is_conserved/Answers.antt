@@ -5,5 +5,5 @@ use Rattle.opening.proofs.is_conserved.Goals as goal
 
 pub returns : goal.returns
 returns c =
-        c.is_kept.ensures
+    c.is_kept.ensures
     ∙ kept_by_sums c.args.s c.args.t c.tally.ensures c.tally-2.ensures c.tally.auto.sums (c.tally-2.auto.sums ∙ c.requires.leaving_len.0)

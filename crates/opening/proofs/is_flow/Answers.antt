@@ -27,5 +27,5 @@ is_conserved-requires c =
 
 pub returns : goal.returns
 returns c =
-        let given = c.args in
+    let given = c.args in
     flow_decides (table_of given.n given.s given.t given.tails.now given.heads.now given.capacities.now) given.flow.now c.is_within.ensures c.if-not-is_within.false c.requires.arc_rows (zeros_long _ c.requires.arc_rows.ends.few_nodes) c.is_conserved.ensures

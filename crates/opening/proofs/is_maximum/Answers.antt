@@ -5,9 +5,9 @@ use Rattle.opening.proofs.is_maximum.Goals as goal
 
 pub is_flow-requires : goal.is_flow-requires
 is_flow-requires c = record {
-      arc_rows = c.requires.accepted.rows;
-      capacities_in_bounds = c.requires.capacities_in_bounds;
-    }
+  arc_rows = c.requires.accepted.rows;
+  capacities_in_bounds = c.requires.capacities_in_bounds;
+}
 
 pub returns-then-not-is_flow : goal.returns-then-not-is_flow
 returns-then-not-is_flow c =
@@ -16,10 +16,10 @@ returns-then-not-is_flow c =
 
 pub is_sink_reached-requires : goal.is_sink_reached-requires
 is_sink_reached-requires c = record {
-      accepted = c.requires.accepted;
-      in_work = c.requires.in_work;
-      capacities_in_bounds = (c.requires.capacities_in_bounds, c.requires.accepted.rows.ends.few_nodes);
-    }
+  accepted = c.requires.accepted;
+  in_work = c.requires.in_work;
+  capacities_in_bounds = (c.requires.capacities_in_bounds, c.requires.accepted.rows.ends.few_nodes);
+}
 
 pub returns : goal.returns
 returns c =

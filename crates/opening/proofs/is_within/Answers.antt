@@ -8,12 +8,12 @@ loop-k-init c = (search rules, within_none c.args.capacities.now c.args.flow.now
 
 pub returns-then-capacities-k : goal.returns-then-capacities-k
 returns-then-capacities-k c =
-        within_broken c.args.capacities.now c.args.flow.now c.loop-k.k c.loop-k-test.true c.if-capacities-k.true
+    within_broken c.args.capacities.now c.args.flow.now c.loop-k.k c.loop-k-test.true c.if-capacities-k.true
 
 pub loop-k-preserved : goal.loop-k-preserved
 loop-k-preserved c =
-        (omega arith, within_more c.args.capacities.now c.args.flow.now c.loop-k.k c.loop-k.invariant.1 c.if-capacities-k.false)
+    (omega arith, within_more c.args.capacities.now c.args.flow.now c.loop-k.k c.loop-k.invariant.1 c.if-capacities-k.false)
 
 pub returns : goal.returns
 returns c =
-        within_all c.args.capacities.now c.args.flow.now c.loop-k.k (omega arith) c.loop-k.invariant.1
+    within_all c.args.capacities.now c.args.flow.now c.loop-k.k (omega arith) c.loop-k.invariant.1

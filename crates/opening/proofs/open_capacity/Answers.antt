@@ -5,4 +5,4 @@ use Rattle.opening.proofs.open_capacity.Goals as goal
 
 pub returns : goal.returns
 returns c =
-        ap (λ row. set row c.args.place c.args.capacity) (c.store.ensures ∙ sets_all c.args.row.now c.args.capacities.now (sym c.requires.0))
+    ap (λ row. set row c.args.place c.args.capacity) (c.store.ensures ∙ sets_all c.args.row.now c.args.capacities.now (sym c.requires.0))

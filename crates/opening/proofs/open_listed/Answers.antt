@@ -9,10 +9,10 @@ fill_work-requires c = (ends_wide c.requires.accepted.rows.ends, c.requires.tail
 
 pub change_verdict-requires : goal.change_verdict-requires
 change_verdict-requires c = record {
-      accepted = c.requires.accepted;
-      in_work = c.fill_work.ensures.listed c.args.s c.args.t c.args.capacities.now c.requires.accepted.rows.capacities_long;
-      capacities_in_bounds = c.requires.given_room.0;
-    }
+  accepted = c.requires.accepted;
+  in_work = c.fill_work.ensures.listed c.args.s c.args.t c.args.capacities.now c.requires.accepted.rows.capacities_long;
+  capacities_in_bounds = c.requires.given_room.0;
+}
 
 pub open_table-requires : goal.open_table-requires
 open_table-requires c =

@@ -42,5 +42,5 @@ open_rows-requires c =
 
 pub returns : goal.returns
 returns c =
-            let given = c.args in
+    let given = c.args in
     went_opened (table_of given.n given.s given.t given.tails.now given.heads.now given.capacities.now) given.place given.capacity c.requires.opens given.stamp given.flow.now given.side.now given.work.now c.open_rows.result _ _ _ c.requires.opens.for_flow c.open_rows.ensures

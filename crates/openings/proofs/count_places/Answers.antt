@@ -20,7 +20,7 @@ bounds-heads-k c = omega (arith, c.requires.0.heads_long, c.loop-k-test.true)
 
 pub both_mark-requires : goal.both_mark-requires
 both_mark-requires c =
-                omega (arith, c.requires.1, c.requires.0.tail_node c.loop-k.k c.loop-k-test.true, c.requires.0.head_node c.loop-k.k c.loop-k-test.true)
+    omega (arith, c.requires.1, c.requires.0.tail_node c.loop-k.k c.loop-k-test.true, c.requires.0.head_node c.loop-k.k c.loop-k-test.true)
 
 pub overflow_add-count : goal.overflow_add-count
 overflow_add-count c =
@@ -34,12 +34,12 @@ loop-k-preserved c =
     let on : k + 1 ≡ suc k = omega arith in (
       omega (arith, c.loop-k-test.true),
       elim c.if-both_mark.branch [
-        then-both_mark w ↦ counted_yes test k _ _ _ on (sym c.both_mark.ensures ∙ w.if-both_mark.true) c.loop-k.invariant.1 w.count-is
+        | then-both_mark w ↦ counted_yes test k _ _ _ on (sym c.both_mark.ensures ∙ w.if-both_mark.true) c.loop-k.invariant.1 w.count-is
         | else-both_mark w ↦ counted_no test k _ _ _ on (sym c.both_mark.ensures ∙ w.if-both_mark.false) c.loop-k.invariant.1 w.count-is
       ],
     )
 
 pub returns : goal.returns
 returns c =
-        let all : c.loop-k.k ≡ length c.args.tails.now = omega arith in
+    let all : c.loop-k.k ≡ length c.args.tails.now = omega arith in
     rw (← all) c.loop-k.invariant.1

@@ -33,7 +33,7 @@ returns c =
     let table : Table = table_of c.args.n c.args.s c.args.t c.args.tails.now c.args.heads.now c.args.capacities.now in
     let few : (length c.args.capacities.now ≤ 4096) × (c.args.n ≤ 512) × (length c.args.tails.now ≡ length c.args.capacities.now) = let rows = c.requires.accepted.rows in (omega (arith, rows.ends.few_arcs, rows.capacities_long), rows.ends.few_nodes, sym rows.capacities_long) in
     let given = c.args in
-        let found = c.solve_sides-answer.new.flow in
+    let found = c.solve_sides-answer.new.flow in
     c.hand_lists.ensures
     ∙ handed_finding table c.requires.accepted given.stamp c.solve_sides-answer.result _ _ _ given.flow.now given.side.now given.work.now given.sources.now given.sinks.now given.places.now
     c.solve_sides-answer.ensures.answer_is (ap (λ (m : ℕ). take m found) few.2 ∙ c.solve_sides-answer.ensures.flow_is) c.solve_sides-answer.ensures.side_is c.solve_sides-answer.ensures.sinks_are

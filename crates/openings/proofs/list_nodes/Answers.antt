@@ -41,13 +41,13 @@ overflow_add-count c =
 
 pub loop-k-preserved : goal.loop-k-preserved
 loop-k-preserved c =
-        let marks = c.args.marks.now in
+    let marks = c.args.marks.now in
     let k = c.loop-k.k in
     let room : at_place c.args.marks.now c.loop-k.k ≡ 1 → c.loop-k.count < length c.loop-k.list = λ kept. let given = c.args in gathered_room (marked given.marks.now) (suc c.loop-k.k) (suc (length given.marks.now)) _ _ _ c.loop-k.invariant.1 (eq-eqb _ 1 kept) (omega (arith, c.loop-k-test.true)) c.requires.1 in
     let on : suc (k + 1) ≡ suc (suc k) = omega arith in (
       omega arith,
       elim c.if-marks-k-eq1.branch [
-        then-marks-k-eq1 w ↦ gathered_yes (marked marks) (suc k) _ _ _ (k + 1) _ _ _ on c.loop-k.invariant.1 (eq-eqb _ 1 w.if-marks-k-eq1.true) (room w.if-marks-k-eq1.true) (omega arith) w.list-is w.count-is
+        | then-marks-k-eq1 w ↦ gathered_yes (marked marks) (suc k) _ _ _ (k + 1) _ _ _ on c.loop-k.invariant.1 (eq-eqb _ 1 w.if-marks-k-eq1.true) (room w.if-marks-k-eq1.true) (omega arith) w.list-is w.count-is
         | else-marks-k-eq1 w ↦ gathered_no (marked marks) (suc k) _ _ _ _ _ _ on c.loop-k.invariant.1 (ne_eqb _ 1 w.if-marks-k-eq1.false) w.list-is w.count-is
       ],
     )
@@ -57,5 +57,5 @@ shape_of-list c = c.loop-k.invariant.1.long
 
 pub returns : goal.returns
 returns c =
-        let all : c.loop-k.k ≡ length c.args.marks.now = omega arith in
+    let all : c.loop-k.k ≡ length c.args.marks.now = omega arith in
     (rw (← all) c.loop-k.invariant.1.counted, rw (← all) c.loop-k.invariant.1.filled)

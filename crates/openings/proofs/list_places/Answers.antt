@@ -20,7 +20,7 @@ bounds-heads-k c = omega (arith, c.requires.arc_ends.0.heads_long, c.loop-k-test
 
 pub both_mark-requires : goal.both_mark-requires
 both_mark-requires c =
-                omega (arith, c.requires.arc_ends.1, c.requires.arc_ends.0.tail_node c.loop-k.k c.loop-k-test.true, c.requires.arc_ends.0.head_node c.loop-k.k c.loop-k-test.true)
+    omega (arith, c.requires.arc_ends.1, c.requires.arc_ends.0.tail_node c.loop-k.k c.loop-k-test.true, c.requires.arc_ends.0.head_node c.loop-k.k c.loop-k-test.true)
 
 pub overflow_cast-list : goal.overflow_cast-list
 overflow_cast-list c = omega (arith, c.requires.arc_ends.0.few_arcs, c.loop-k-test.true)
@@ -57,7 +57,7 @@ loop-k-preserved c =
     let on : k + 1 ≡ suc k = omega arith in (
       omega (arith, c.loop-k-test.true),
       elim c.if-both_mark.branch [
-        then-both_mark w ↦ gathered_yes test k _ _ _ k _ _ _ on c.loop-k.invariant.1 (sym c.both_mark.ensures ∙ w.if-both_mark.true) (room w.if-both_mark.true) refl w.list-is w.count-is
+        | then-both_mark w ↦ gathered_yes test k _ _ _ k _ _ _ on c.loop-k.invariant.1 (sym c.both_mark.ensures ∙ w.if-both_mark.true) (room w.if-both_mark.true) refl w.list-is w.count-is
         | else-both_mark w ↦ gathered_no test k _ _ _ _ _ _ on c.loop-k.invariant.1 (sym c.both_mark.ensures ∙ w.if-both_mark.false) w.list-is w.count-is
       ],
     )
@@ -67,5 +67,5 @@ shape_of-list c = c.loop-k.invariant.1.long
 
 pub returns : goal.returns
 returns c =
-        let all : c.loop-k.k ≡ length c.args.tails.now = omega arith in
+    let all : c.loop-k.k ≡ length c.args.tails.now = omega arith in
     (rw (← all) c.loop-k.invariant.1.counted, rw (← all) c.loop-k.invariant.1.filled)

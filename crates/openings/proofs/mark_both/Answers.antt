@@ -13,7 +13,7 @@ use Rattle.openings.proofs.mark_both.Goals as goal
 
 pub fill_work-requires : goal.fill_work-requires
 fill_work-requires c =
-        let rows = c.requires.accepted.rows in
+    let rows = c.requires.accepted.rows in
     (ends_wide rows.ends, omega (arith, rows.capacities_long, c.requires.flow_len.3))
 
 pub solve_filled-answer-requires : goal.solve_filled-answer-requires

@@ -25,7 +25,7 @@ list_places-in_places-requires c =
 
 pub returns : goal.returns
 returns c =
-                record {
+    record {
       openings_are = rw (c.list_nodes-in_sources.ensures.0, c.list_nodes-in_sinks.ensures.0, c.list_places-in_places.ensures.0);
       sources_are = c.list_nodes-in_sources.ensures.1;
       sinks_are = c.list_nodes-in_sinks.ensures.1;

@@ -9,10 +9,10 @@ returns-then-not-is_marked c =
 
 pub returns-then-is_marked : goal.returns-then-is_marked
 returns-then-is_marked c =
-        let given = c.args in
+    let given = c.args in
     head_marked given.side.now given.tail given.head c.is_marked.ensures c.if-not-is_marked.false c.is_marked-2.ensures c.if-is_marked.true
 
 pub returns : goal.returns
 returns c =
-        let given = c.args in
+    let given = c.args in
     only_tail_marked given.side.now given.tail given.head c.is_marked.ensures c.if-not-is_marked.false c.is_marked-2.ensures c.if-is_marked.false

@@ -7,4 +7,4 @@ use Rattle.planner.proofs.is_marked.Goals as goal
 
 pub returns : goal.returns
 returns c =
-        ap (λ (x : ℕ). eqb x 1) (sym (node_at c.args.side.now c.args.i c.requires.0))
+    ap (λ (x : ℕ). eqb x 1) (sym (node_at c.args.side.now c.args.i c.requires.0))

@@ -8,7 +8,7 @@ use Rattle.planner.proofs.read_at.Goals as goal
 
 pub crossing-requires : goal.crossing-requires
 crossing-requires c =
-        let rows = c.requires.accepted.rows in
+    let rows = c.requires.accepted.rows in
     let tail = rows.ends.tail_node c.args.place (omega (arith, rows.capacities_long, c.requires.capacities_in_bounds.2)) in
     let head = rows.ends.head_node c.args.place (omega (arith, rows.capacities_long, c.requires.capacities_in_bounds.2)) in
     ((tail.0, omega (arith, c.requires.capacities_in_bounds.1)), (head.0, omega (arith, c.requires.capacities_in_bounds.1)))

@@ -13,7 +13,7 @@ use Rattle.room.proofs.halt_rows.Goals as goal
 
 pub fill_work-requires : goal.fill_work-requires
 fill_work-requires c =
-        let rows = c.requires.accepted.rows in
+    let rows = c.requires.accepted.rows in
     (ends_wide rows.ends, omega (arith, rows.capacities_long, c.requires.capacities_in_bounds.1))
 
 pub slice_bounds-run_until-end-2 : goal.slice_bounds-run_until-end-2
@@ -36,13 +36,13 @@ room_need-requires c =
 
 pub clear-requires : goal.clear-requires
 clear-requires c =
-            omega (arith, c.room_need.ensures, c.requires.capacities_in_bounds.1, c.fill_work.auto.work, c.run_until-stop.auto.work)
+    omega (arith, c.room_need.ensures, c.requires.capacities_in_bounds.1, c.fill_work.auto.work, c.run_until-stop.auto.work)
 
 pub returns : goal.returns
 returns c =
     let filled : List ℕ = c.fill_work.new.work in
     let given = c.args in
-        record {
+    record {
       counts_are = c.run_until-stop.ensures.counts_are;
       sink_is = c.run_until-stop.ensures.sink_is;
       phases_are = c.run_until-stop.ensures.phases_are;

@@ -10,7 +10,7 @@ use Rattle.smaller.proofs.find_live.Goals as goal
 
 pub fill_work-requires : goal.fill_work-requires
 fill_work-requires c =
-        let rows = c.requires.accepted.0.rows in
+    let rows = c.requires.accepted.0.rows in
     (ends_wide rows.ends, omega (arith, rows.capacities_long, c.requires.capacities_in_bounds.1))
 
 pub mark-requires : goal.mark-requires

@@ -20,14 +20,14 @@ put_back-requires c =
 
 pub mark-requires : goal.mark-requires
 mark-requires c = record {
-      arc_rows = (c.requires.fact.0.rows, omega (arith, c.put_back.auto.flow, c.requires.ahead_len.3), c.requires.fact.0.source);
-      by_index = (c.args.s, c.args.t, c.requires.fact.1);
-      n_in_bounds = c.requires.ahead_len.4;
-    }
+  arc_rows = (c.requires.fact.0.rows, omega (arith, c.put_back.auto.flow, c.requires.ahead_len.3), c.requires.fact.0.source);
+  by_index = (c.args.s, c.args.t, c.requires.fact.1);
+  n_in_bounds = c.requires.ahead_len.4;
+}
 
 pub work_need-requires : goal.work_need-requires
 work_need-requires c =
-        omega (arith, c.requires.fact.0.rows.ends.few_arcs, c.requires.fact.0.rows.capacities_long)
+    omega (arith, c.requires.fact.0.rows.ends.few_arcs, c.requires.fact.0.rows.capacities_long)
 
 pub clear-requires : goal.clear-requires
 clear-requires c = omega (arith, c.work_need.ensures, c.requires.ahead_len.5)

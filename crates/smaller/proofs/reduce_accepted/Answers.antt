@@ -17,13 +17,13 @@ reduce_cut-requires c =
     let (arcs, nodes) = few in record {
       fact = (c.requires.accepted.0, c.find_live.ensures.in_work, c.find_live.ensures.fact.0, c.find_live.ensures.fact.1);
       n_in_bounds = (
-          omega (arith, c.find_live.auto.ahead, length-replicate {A = ℕ} 512 0),
-          omega (arith, c.find_live.auto.behind, length-replicate {A = ℕ} 512 0),
-          omega (arith, length-replicate {A = ℕ} 512 0),
-          omega (arith, length-replicate {A = ℕ} 4096 0),
-          omega (arith, length-replicate {A = ℕ} 512 0),
-          omega (arith, length-replicate {A = ℕ} 10241 0),
-          c.requires.accepted.1,
-        );
+        omega (arith, c.find_live.auto.ahead, length-replicate {A = ℕ} 512 0),
+        omega (arith, c.find_live.auto.behind, length-replicate {A = ℕ} 512 0),
+        omega (arith, length-replicate {A = ℕ} 512 0),
+        omega (arith, length-replicate {A = ℕ} 4096 0),
+        omega (arith, length-replicate {A = ℕ} 512 0),
+        omega (arith, length-replicate {A = ℕ} 10241 0),
+        c.requires.accepted.1,
+      );
       given_room_to_reduce = c.requires.given_room_to_reduce;
     }

@@ -19,13 +19,13 @@ slice_bounds-reduce_marked-end-6 c = sym (length-take-le _ _ c.requires.n_in_bou
 
 pub reduce_marked-requires : goal.reduce_marked-requires
 reduce_marked-requires c = record {
-      fact = c.requires.fact;
-      ahead_len = (length-take-le _ _ c.requires.n_in_bounds.0, length-take-le _ _ c.requires.n_in_bounds.1, length-take-le _ _ c.requires.n_in_bounds.2, c.requires.n_in_bounds.3, c.requires.n_in_bounds.4, c.requires.n_in_bounds.5, length-take-le _ _ c.requires.n_in_bounds.6);
-      given_room_to_reduce = c.requires.given_room_to_reduce;
-    }
+  fact = c.requires.fact;
+  ahead_len = (length-take-le _ _ c.requires.n_in_bounds.0, length-take-le _ _ c.requires.n_in_bounds.1, length-take-le _ _ c.requires.n_in_bounds.2, c.requires.n_in_bounds.3, c.requires.n_in_bounds.4, c.requires.n_in_bounds.5, length-take-le _ _ c.requires.n_in_bounds.6);
+  given_room_to_reduce = c.requires.given_room_to_reduce;
+}
 
 pub returns : goal.returns
 returns c =
-            let given = c.args in
+    let given = c.args in
     reduced_longer (table_of given.n given.s given.t given.tails.now given.heads.now given.capacities.now) given.stamp given.flow.now given.side.now given.work.now
     (small_rows given.small-tails.now given.small-heads.now given.small-capacities.now given.nodes_from.now given.arcs_from.now) c.reduce_marked.result _ _ _ _ c.requires.n_in_bounds.6 c.reduce_marked.ensures

@@ -12,7 +12,7 @@ use Rattle.smaller.proofs.reduce_marked.Goals as goal
 
 pub write_small-sizes-requires : goal.write_small-sizes-requires
 write_small-sizes-requires c =
-                    let arcs = c.requires.fact.0.rows.capacities_long in record {
+    let arcs = c.requires.fact.0.rows.capacities_long in record {
       arc_ends = (
         subst⁻¹ (λ k. ArcEnds k c.args.tails.now c.args.heads.now) c.requires.ahead_len.0 c.requires.fact.0.rows.ends,
         omega (arith, c.requires.ahead_len.0, c.requires.ahead_len.1),
@@ -82,6 +82,6 @@ returns c =
     let table : Table = table_of c.args.n c.args.s c.args.t c.args.tails.now c.args.heads.now c.args.capacities.now in
     let accepted : Accepted table = c.requires.fact.0 in
     let given = c.args in
-        reduced_is table accepted given.ahead.now given.behind.now c.requires.fact.2 c.requires.fact.3 small c.write_small-sizes.result _ c.write_small-sizes.ensures
+    reduced_is table accepted given.ahead.now given.behind.now c.requires.fact.2 c.requires.fact.3 small c.write_small-sizes.result _ c.write_small-sizes.ensures
     given.stamp given.flow.now given.side.now given.work.now c.solve_small-answer.new.flows c.solve_small-answer.result c.raise_stamp.result _ _ _
     c.requires.ahead_len.6 c.solve_small-answer.ensures.1 c.solve_small-answer.ensures.0 c.raise_stamp.ensures c.put_all_back.ensures.flow_value c.put_all_back.ensures.side_value c.put_all_back.ensures.work_value

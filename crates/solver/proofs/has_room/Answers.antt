@@ -17,5 +17,5 @@ returns-then-side-n c = simp (le-leb _ _ c.if-flow-m.false, lt-leb _ _ c.if-side
 pub returns : goal.returns
 unfolding has_room
 returns c =
-        simp (le-leb _ _ c.if-flow-m.false, le-leb _ _ c.if-side-n.false)
+    simp (le-leb _ _ c.if-flow-m.false, le-leb _ _ c.if-side-n.false)
     (ap (λ (x : ℕ). leb x c.args.work) c.work_need.ensures)

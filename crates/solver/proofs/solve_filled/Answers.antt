@@ -13,7 +13,7 @@ use Rattle.solver.proofs.solve_filled.Goals as goal
 
 pub run-outcome-requires : goal.run-outcome-requires
 run-outcome-requires c =
-        (c.requires.fact.0, c.requires.fact.1, c.requires.flow_len.0)
+    (c.requires.fact.0, c.requires.fact.1, c.requires.flow_len.0)
 
 pub value-value-requires : goal.value-value-requires
 value-value-requires c =

@@ -13,29 +13,29 @@ use Rattle.solver.proofs.solve_rows.Goals as goal
 
 pub fill_work-requires : goal.fill_work-requires
 fill_work-requires c =
-        let rows = c.requires.accepted.rows in
+    let rows = c.requires.accepted.rows in
     (ends_wide rows.ends, omega (arith, rows.capacities_long, c.requires.flow_len.2))
 
 pub solve_filled-answer-requires : goal.solve_filled-answer-requires
 solve_filled-answer-requires c = record {
-      fact = (c.requires.accepted, c.fill_work.ensures.listed c.args.s c.args.t c.args.capacities.now c.requires.accepted.rows.capacities_long);
-      flow_len = (c.requires.flow_len.0, c.requires.flow_len.1);
-    }
+  fact = (c.requires.accepted, c.fill_work.ensures.listed c.args.s c.args.t c.args.capacities.now c.requires.accepted.rows.capacities_long);
+  flow_len = (c.requires.flow_len.0, c.requires.flow_len.1);
+}
 
 pub work_need-requires : goal.work_need-requires
 work_need-requires c =
-        omega (arith, c.requires.accepted.rows.ends.few_arcs, c.requires.accepted.rows.capacities_long)
+    omega (arith, c.requires.accepted.rows.ends.few_arcs, c.requires.accepted.rows.capacities_long)
 
 pub clear-requires : goal.clear-requires
 clear-requires c =
-            omega (arith, c.work_need.ensures, c.requires.flow_len.2, c.fill_work.auto.work, c.solve_filled-answer.auto.work)
+    omega (arith, c.work_need.ensures, c.requires.flow_len.2, c.fill_work.auto.work, c.solve_filled-answer.auto.work)
 
 pub returns : goal.returns
 returns c =
     let table : Table = table_of c.args.n c.args.s c.args.t c.args.tails.now c.args.heads.now c.args.capacities.now in
     let filled : List ℕ = c.fill_work.new.work in
     let given = c.args in
-        let worked = c.solve_filled-answer.new.work in
+    let worked = c.solve_filled-answer.new.work in
     solved_rows table given.stamp given.flow.now given.side.now given.work.now filled c.solve_filled-answer.result _ _ worked _
     c.requires.flow_len.0 c.solve_filled-answer.ensures
     (c.clear.ensures

@@ -21,6 +21,6 @@ solve_rows-requires c =
 
 pub returns : goal.returns
 returns c =
-            let given = c.args in
+    let given = c.args in
     solved_longer (table_of given.n given.s given.t given.tails.now given.heads.now given.capacities.now) given.stamp given.flow.now given.side.now given.work.now
     c.solve_rows.result _ _ _ c.requires.given_room.0 c.solve_rows.ensures
