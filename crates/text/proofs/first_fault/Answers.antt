@@ -1,5 +1,5 @@
 -- `first_fault` meets its contract: the first fault of all arcs is the first fault of those from `at` on.
-use Prim.Native.Nat.{ℕ, ◌-◌}
+use Prim.Native.Nat.{ℕ}
 use mathlib.Core.Path.{refl, sym, subst, ◌∙◌}
 use mathlib.Core.List.{List}
 use native.Mathlib.Omega.{arith}
@@ -31,8 +31,8 @@ loop-arc-smaller c =
 pub loop-arc-preserved : goal.loop-arc-preserved
 loop-arc-preserved c =
     let text_at : List ℕ = c.args.text.now in
-    let arc_found : Stands text_at c.loop-arc.at (Next c.in-Next.arc c.in-Next.next) = subst (Stands text_at c.loop-arc.at) c.in-Next.is c.next_arc.ensures in
-    (
-  arc_found.2,
-  omega (arith, arc_found),
-  c.loop-arc.invariant.2 ∙ fault_later _ _ arc_found.0 c.arc_fault-fault.ensures (sym c.is_fine.ensures ∙ c.if-not-is_fine.false),
+    let arc_found : Stands text_at c.loop-arc.at (Next c.in-Next.arc c.in-Next.next) = subst (Stands text_at c.loop-arc.at) c.in-Next.is c.next_arc.ensures in (
+      arc_found.2,
+      omega (arith, arc_found),
+      c.loop-arc.invariant.2 ∙ fault_later _ _ arc_found.0 c.arc_fault-fault.ensures (sym c.is_fine.ensures ∙ c.if-not-is_fine.false),
+    )

@@ -1,5 +1,5 @@
 -- `judge_lines` meets its contract: judging all lines is judging those from `start` on with the progress so far.
-use Prim.Native.Nat.{◌-◌, ◌≤◌}
+use Prim.Native.Nat.{◌≤◌}
 use mathlib.Core.Path.{sym, ap, ◌∙◌}
 use mathlib.Core.Bool.{not}
 use native.Mathlib.Omega.{arith}

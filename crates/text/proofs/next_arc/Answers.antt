@@ -1,5 +1,5 @@
 -- `next_arc` meets its contract: the arcs from `from` on are those from `at` on.
-use Prim.Native.Nat.{◌-◌, ◌≤◌}
+use Prim.Native.Nat.{◌≤◌}
 use mathlib.Core.Path.{refl, ◌∙◌}
 use mathlib.Core.Bool.{not}
 use native.Mathlib.Omega.{arith}
@@ -41,7 +41,7 @@ loop-at-preserved c =
     let within : c.find-end.result ≤ length c.args.text.now = omega (arith, c.find-end.ensures, run_within (λ b. not (eqb b LF)) c.args.text.now c.loop-at.at (omega arith)) in (
       omega (arith, c.find-end.ensures),
       omega (arith, within),
-      c.loop-at.invariant.2 ∙ arcs_skip c.args.text.now c.loop-at.at c.find-end.result c.loop-at-test.true c.find-end.ensures c.line_kind-kind.ensures (no_arc c.line_kind-kind.result c.in-ArcLine.keys2),
+      c.loop-at.invariant.2 ∙ arcs_skip c.args.text.now c.loop-at.at c.find-end.result c.loop-at-test.true c.find-end.ensures c.line_kind-kind.ensures (no_arc c.line_kind-kind.result c.in_default.not-ArcLine),
     )
 
 pub returns : goal.returns

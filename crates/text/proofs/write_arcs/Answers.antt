@@ -1,5 +1,5 @@
 -- `write_arcs` meets its contract: the arc rows' first places are written, and the arcs from `at` on are still to be.
-use Prim.Native.Nat.{ℕ, ◌-◌, ◌<◌}
+use Prim.Native.Nat.{ℕ, ◌<◌}
 use mathlib.Core.Path.{subst}
 use mathlib.Core.List.{List}
 use native.Mathlib.Omega.{arith}
