@@ -2,8 +2,6 @@
 use Rattle.report.proofs.Listing.{marked_here, marked_end}
 use Rattle.pen.proofs.Writing.{wrote_within, wrote_length, partly_none, partly_more, partly_all}
 use native.Mathlib.Omega.{arith}
-use mathlib.Core.Bool.{false}
-use Prim.Native.Nat.{◌-◌}
 use Rattle.report.proofs.put_marked.Goals as goal
 
 pub loop-i-init : goal.loop-i-init

@@ -1,6 +1,6 @@
 -- `put_number_lines` meets its contract: eight lines, one behind the other.
 use Rattle.report.specs.Printed.{number_lines}
-use Rattle.pen.proofs.Writing.{wrote_then, wrote_length}
+use Rattle.pen.proofs.Writing.{wrote_then}
 use Rattle.report.proofs.put_number_lines.Goals as goal
 
 pub returns : goal.returns
@@ -11,6 +11,3 @@ returns c =
     (wrote_then c.put_signed_line-scale.ensures
     (wrote_then c.put_line-phases.ensures
     (wrote_then c.put_line-saturating.ensures (wrote_then c.put_line-nonsaturating.ensures (wrote_then c.put_line-relabels.ensures c.put_line.ensures))))))
-
-pub shape_of-out : goal.shape_of-out
-shape_of-out c = wrote_length (returns §)
