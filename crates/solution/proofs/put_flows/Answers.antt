@@ -1,4 +1,3 @@
-use Prim.Native.Nat.{◌-◌}
 use native.Mathlib.Omega.{arith}
 use Rattle.pen.proofs.Writing.{wrote_within, wrote_length, partly_none, partly_more, partly_all}
 use Rattle.wording.proofs.Lengths.{lines_here, lines_end}

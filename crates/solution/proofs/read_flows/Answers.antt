@@ -1,7 +1,7 @@
 -- `read_flows` meets its contract: what all lines say is what the first `place` said, in the row, and what those from `at` on say.
 use lib.ListN.{length-set, length}
 use Rattle.wording.proofs.Saying.{number_here, number_open, say_none, say_stop, say_on, say_more, say_end}
-use Prim.Native.Nat.{◌+◌, ◌-◌}
+use Prim.Native.Nat.{◌+◌}
 use mathlib.Core.Path.{◌≡◌, refl, sym, ◌∙◌}
 use native.Mathlib.Omega.{arith}
 use Rattle.solution.proofs.read_flows.Goals as goal

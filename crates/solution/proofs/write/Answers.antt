@@ -18,8 +18,7 @@ pub returns-in-Refused : goal.returns-in-Refused
 returns-in-Refused c =
     let table : BoundedTable = let a = c.args in bounded_of a.n a.s a.t a.tails.now a.heads.now a.capacities.now a.minimums.now in
     let a = c.args in
-    let told = c.name-1.given in
-    writing_refused table a.value a.flow.now a.text.now _ c.writing_verdict.ensures _ _ _ told.1 (ap (λ (x : ℕ). written_with x told.0.1.0 0) c.number.ensures)
+    writing_refused table a.value a.flow.now a.text.now _ c.writing_verdict.ensures _ _ _ c.in-Refused.is (ap (λ (x : ℕ). written_with x c.in-Refused.place 0) c.number.ensures)
 
 pub returns-in-Fine : goal.returns-in-Fine
 returns-in-Fine c =
