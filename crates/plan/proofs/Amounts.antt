@@ -5,8 +5,6 @@ use mathlib.Core.Bool.{Bool, true, false, true≢false}
 use mathlib.Core.List.{List, [], ◌∷◌, ◌++◌}
 use native.Mathlib.Omega.{arith}
 use lib.ListN.{length, get_or, take, drop}
-use denote.Enum.Declared.{tag_of}
-use types.Run.{OneOf, miss}
 use Rattle.rows.specs.Row.{Node}
 use Rattle.rows.specs.Sum.{only}
 use Rattle.scan.specs.Parts.{LF, lines, up_to}
@@ -18,7 +16,6 @@ use Rattle.amounts.specs.Lines.{kind_of, amount_in, amounts_of}
 use Rattle.sharing.specs.Full.{is_pair, sum_where, pair_sum}
 use Rattle.pairs.specs.Places.{room_at, pair_capacity, Takes}
 use Rattle.plan.specs.Rows.{Adds, TookAll, IsBelow, AtMost}
-use Rattle.amounts.specs.contracts.Kind.{the_type}
 use Rattle.pairs.proofs.Room.{sum_one}
 
 -- The amounts of the lines from a place on.
@@ -88,11 +85,11 @@ pub most_on : (n : ℕ) (row row' : List ℕ) (f : ℕ → ℕ) (at next : ℕ) 
 most_on n row row' f at next m adds h k = omega (arith, m k, adds.1 k)
 
 -- A line that is no `f` line has no amount.
-pub no_amount : (kind : Kind) → OneOf (0 ∷ 1 ∷ 3 ∷ []) (tag_of the_type kind) → amount_in kind ≡ []
+pub no_amount : (kind : Kind) → ((x : Amount) → kind ≡ FlowLine x → ⊥) → amount_in kind ≡ []
 unfolding amount_in
 no_amount Comment h = refl
 no_amount (ValueLine value) h = refl
-no_amount (FlowLine x) h = absurd (miss (0 ∷ 1 ∷ 3 ∷ []) 2 tt h)
+no_amount (FlowLine x) h = absurd (h x refl)
 no_amount Other h = refl
 
 -- An `f` line has one.

@@ -1,5 +1,5 @@
 -- `cut_capacity` meets its contract: the total is that of the arcs so far.
-use Prim.Native.Nat.{ℕ, ◌-◌}
+use Prim.Native.Nat.{ℕ}
 use mathlib.Core.Path.{◌≡◌, refl, ap, ◌∙◌}
 use mathlib.Core.Bool.{not, ◌&&◌}
 use lib.ListN.{length}

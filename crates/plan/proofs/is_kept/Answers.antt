@@ -1,6 +1,6 @@
 -- `is_kept` meets its contract: as much goes into each node before `at` as out of it.
-use Prim.Native.Nat.{◌+◌, ◌-◌}
-use mathlib.Core.Bool.{Bool, true}
+use Prim.Native.Nat.{◌+◌}
+use mathlib.Core.Bool.{Bool}
 use lib.ListN.{get_or}
 use native.Mathlib.Omega.{arith}
 use borrow.Author.Count.{below_more}

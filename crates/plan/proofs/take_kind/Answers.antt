@@ -8,7 +8,7 @@ use Rattle.plan.proofs.take_kind.Goals as goal
 pub returns-in_default : goal.returns-in_default
 returns-in_default c =
     let a = c.args in
-    let none = no_amount a.kind c.in-FlowLine.keys2 in record {
+    let none = no_amount a.kind c.in_default.not-FlowLine in record {
       outs = adds_nothing a.n a.out.now (λ i x. eqb x.tail i) _ none;
       intos = adds_nothing a.n a.into.now (λ i x. eqb x.head i) _ none;
       pairs = λ place p. (takes_nothing place a.room.now _ a.fits none, λ e. e);
