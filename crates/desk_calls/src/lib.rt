@@ -1,5 +1,6 @@
 // Reading a text, and what the desk prints for one, under C names: for the host's comparisons.
 #![tactic(auto)]
+
 ghost use Rattle.std.specs.Prelude.{◌≡◌};
 ghost use Rattle.text.specs.Reading.{values_of};
 ghost use Rattle.counter.specs.Desk.{Served};

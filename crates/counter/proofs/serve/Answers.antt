@@ -8,7 +8,7 @@ use Rattle.counter.proofs.serve.Goals as goal
 
 pub returns-then-text-gt65536 : goal.returns-then-text-gt65536
 returns-then-text-gt65536 c =
-            let text = c.args.text.now in
+    let text = c.args.text.now in
     served text (prints_long text c.if-text-gt65536.true) c.write_refused.ensures
 
 pub serve_rows-requires : goal.serve_rows-requires

@@ -7,8 +7,7 @@ use Rattle.counter.proofs.serve_table.Goals as goal
 
 pub print_left-requires : goal.print_left-requires
 print_left-requires c =
-    let table : BoundedTable = bounded_of c.args.n c.args.s c.args.t c.args.tails.now c.args.heads.now c.args.capacities.now c.args.minimums.now in
-    (
+    let table : BoundedTable = bounded_of c.args.n c.args.s c.args.t c.args.tails.now c.args.heads.now c.args.capacities.now c.args.minimums.now in (
       search (rules, few_nodes table c.requires),
       search (rules, few_arcs table c.requires),
       λ none. (c.solve-solved.ensures.best none).greatest.range,

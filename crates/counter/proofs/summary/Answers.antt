@@ -8,4 +8,4 @@ amount-requires c = search (rules, c.requires)
 
 pub returns : goal.returns
 returns c =
-        summary_is c.args.n c.args.m c.args.solved c.requires c.is_below.ensures c.amount.ensures
+    summary_is c.args.n c.args.m c.args.solved c.requires c.is_below.ensures c.amount.ensures

@@ -24,7 +24,7 @@ read_numbers given n m s t e = rw e
 
 pub returns-in-Refusal : goal.returns-in-Refusal
 returns-in-Refusal c =
-        refused_numbers c.args.given _ _ c.number.result c.in-Refusal.is c.number.ensures
+    refused_numbers c.args.given _ _ c.number.result c.in-Refusal.is c.number.ensures
 
 pub returns-in-Read : goal.returns-in-Read
 returns-in-Read c = read_numbers c.args.given _ _ _ _ c.in-Read.is
