@@ -11,5 +11,5 @@ tell_arcs-requires c = sym c.sizes.ensures ∙ c.in-Fine.is
 pub returns-in-Refused : goal.returns-in-Refused
 returns-in-Refused c =
     let given = c.args in
-    tells_sizes (arc_table given.n given.s given.t given.arcs.now) given.stamp given.answer given.flow.now given.side.now given.place given.result.now _ _
+    tells_sizes (arc_table given.n given.s given.t given.arcs.now) given.stamp given.answer given.flow.now given.side.now given.place given.res.now _ _
     (sym (arc_sizes given.n given.s given.t given.arcs.now) ∙ sym c.sizes.ensures ∙ c.in-Refused.is) c.refused.ensures

@@ -41,5 +41,5 @@ pub returns : goal.returns
 returns c =
     let table : Table = table_of c.args.n c.args.s c.args.t c.args.tails.now c.args.heads.now c.args.capacities.now in
     let given = c.args in
-    serves_solved table given.stamp given.flow.now given.side.now given.result.now c.requires _ _ _
+    serves_solved table given.stamp given.flow.now given.side.now given.res.now c.requires _ _ _
     c.solve_table-answer.ensures c.write_flows.ensures c.write_marks.ensures c.write_result.ensures

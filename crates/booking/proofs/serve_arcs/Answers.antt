@@ -52,5 +52,5 @@ returns c =
     let small : Sized c.args.n ((length c.args.arcs.now + 11) / 12) many many = sized _ _ _ _ _ _ c.requires in
     let given = c.args in
     c.serve_first.ensures
-    ∙ ap (λ (t : Table). serving t given.stamp given.flow.now given.side.now given.result.now)
+    ∙ ap (λ (t : Table). serving t given.stamp given.flow.now given.side.now given.res.now)
     (columns_table given.n given.s given.t many given.arcs.now refl small.tails_same (column_front _ many _ _ c.get_column.ensures) (column_front _ many _ _ c.get_column-2.ensures) (column_front _ many _ _ c.get_column-3.ensures))

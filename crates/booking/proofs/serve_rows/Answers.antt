@@ -17,4 +17,4 @@ returns-in-Refused c =
     let table : Table = table_of c.args.n c.args.s c.args.t c.args.tails.now c.args.heads.now c.args.capacities.now in
     let found : c.check.result ≡ serving_verdict table c.args.flow.now c.args.side.now c.args.res.now = c.check.ensures ∙ ap (check_of table) c.has_byte_room-room.ensures in
     let given = c.args in
-    serves_refusal table given.stamp given.flow.now given.side.now given.result.now _ _ (sym found ∙ c.in-Refused.is) c.refused.ensures
+    serves_refusal table given.stamp given.flow.now given.side.now given.res.now _ _ (sym found ∙ c.in-Refused.is) c.refused.ensures

@@ -13,7 +13,7 @@ returns-then-not-has_byte_room c =
     let table : Table = arc_table c.args.n c.args.s c.args.t c.args.arcs.now in
     let many : length c.args.arcs.now / 12 ≡ arcs table = sym (arc_length 8 (length c.args.arcs.now / 12) c.args.arcs.now) in
     let given = c.args in
-    tells_no_room table given.stamp given.answer given.flow.now given.side.now given.place given.result.now
+    tells_no_room table given.stamp given.answer given.flow.now given.side.now given.place given.res.now
     (sym (arc_sizes given.n given.s given.t given.arcs.now) ∙ c.requires) many c.has_byte_room.ensures c.if-not-has_byte_room.true c.refused.ensures
 
 pub read_arcs-found-requires : goal.read_arcs-found-requires
@@ -31,5 +31,5 @@ returns c =
     let table : Table = arc_table c.args.n c.args.s c.args.t c.args.arcs.now in
     let many : length c.args.arcs.now / 12 ≡ arcs table = sym (arc_length 8 (length c.args.arcs.now / 12) c.args.arcs.now) in
     let given = c.args in
-    tells_own table given.stamp given.answer given.flow.now given.side.now given.place given.result.now
+    tells_own table given.stamp given.answer given.flow.now given.side.now given.place given.res.now
     many (sym c.has_byte_room.ensures ∙ c.if-not-has_byte_room.false) c.read_arcs-found.ensures c.tell.ensures

@@ -29,14 +29,13 @@ loop-j-preserved c =
     let days : Days = days_of c.args.starts.now c.args.nodes.now c.args.sources.now c.args.sinks.now c.args.stamps.now c.args.tails.now c.args.heads.now c.args.capacities.now c.args.minimums.now in
     let turn : Held = held c.loop-j.tally c.loop-j.flow c.loop-j.side c.loop-j.work c.loop-j.answers in
     let given = c.args in
-    let inv = c.loop-j.invariant in
-    let kept = c.solve_day-tally.auto.1.1.1.1.1.1.1.1.1.1.1 in (
+    let inv = c.loop-j.invariant in (
       omega arith,
       one_more days given.flow.now given.side.now given.work.now given.answers.now c.requires c.loop-j.j turn _ inv.1 c.solve_day-tally.ensures,
-      kept.0 ∙ inv.2,
-      kept.1.0 ∙ inv.3,
-      kept.1.1.0 ∙ inv.4,
-      kept.1.1.1.0 ∙ inv.5,
+      c.solve_day-tally.auto.flow ∙ inv.2,
+      c.solve_day-tally.auto.side ∙ inv.3,
+      c.solve_day-tally.auto.work ∙ inv.4,
+      c.solve_day-tally.auto.answers ∙ inv.5,
     )
 
 pub shape_of-flow : goal.shape_of-flow

@@ -2,7 +2,7 @@
 use Rattle.std.proofs.Common.{◌≡◌, length, ap, ◌∙◌}
 use Rattle.minimums.specs.BoundedTable.{BoundedTable, bounded_of}
 use Rattle.minimums.specs.Checks.{plain_check}
-use Rattle.solver.specs.Solving.{Left, has_room}
+use Rattle.solver.specs.Solving.{left, has_room}
 use Rattle.opening.specs.Maximum.{MaximumFlow}
 use Rattle.opening.specs.Opening.{opened, opening, Reopens}
 use Rattle.opening.proofs.Reopening.{refused_own, own_accepts, fine_own, opening_reopens, opening_notmax}
@@ -21,24 +21,25 @@ open_accepted-requires c =
 pub returns-in-Refused : goal.returns-in-Refused
 returns-in-Refused c =
     let table : BoundedTable = bounded_of c.args.n c.args.s c.args.t c.args.tails.now c.args.heads.now c.args.capacities.now c.args.minimums.now in
-    let found : c.plain_check.result ≡ plain_check table (has_room c.args.n (length c.args.capacities.now) (length c.args.flow.now) (length c.args.side.now) (length c.args.work.now)) = c.plain_check.ensures ∙ ap (plain_check table) c.has_room-room.ensures in
-    let whole : (l : Left) → l ≡ opening table c.args.stamp c.args.place c.args.capacity c.args.flow.now c.args.side.now c.args.work.now → (l ≡ opening table c.args.stamp c.args.place c.args.capacity c.args.flow.now c.args.side.now c.args.work.now) × ((l.answer.refusal ≡ 0 → Reopens table.table (opened table.table c.args.place c.args.capacity) c.args.flow.now l) × (l.answer.refusal ≡ 23 → MaximumFlow table.table c.args.flow.now → ⊥)) = λ l e. ( e, ( opening_reopens table c.args.stamp c.args.place c.args.capacity c.args.flow.now c.args.side.now c.args.work.now l e, opening_notmax table c.args.stamp c.args.place c.args.capacity c.args.flow.now c.args.side.now c.args.work.now l e, ), in
+    let found : c.plain_check.result ≡ plain_check table (has_room c.args.n (length c.args.capacities.now) (length c.args.flow.now) (length c.args.side.now) (length c.args.work.now)) =
+    c.plain_check.ensures ∙ ap (plain_check table) c.has_room-room.ensures in
     let given = c.args in
-    let the_facts = whole _
-    (refused_own table given.stamp given.place given.capacity given.flow.now given.side.now given.work.now _ found _ _ c.in-Refused.is c.refused.result c.refused.ensures) in record {
-      exact = the_facts.0;
-      best = the_facts.1.0;
-      notmax = the_facts.1.1;
+    let exact : left c.refused.result given.flow.now given.side.now given.work.now ≡ opening table given.stamp given.place given.capacity given.flow.now given.side.now given.work.now =
+    refused_own table given.stamp given.place given.capacity given.flow.now given.side.now given.work.now _ found _ _ c.in-Refused.is c.refused.result c.refused.ensures in record {
+      exact = exact;
+      best = opening_reopens table given.stamp given.place given.capacity given.flow.now given.side.now given.work.now _ exact;
+      notmax = opening_notmax table given.stamp given.place given.capacity given.flow.now given.side.now given.work.now _ exact;
     }
 
 pub returns-in-Fine : goal.returns-in-Fine
 returns-in-Fine c =
     let table : BoundedTable = bounded_of c.args.n c.args.s c.args.t c.args.tails.now c.args.heads.now c.args.capacities.now c.args.minimums.now in
-    let found : c.plain_check.result ≡ plain_check table (has_room c.args.n (length c.args.capacities.now) (length c.args.flow.now) (length c.args.side.now) (length c.args.work.now)) = c.plain_check.ensures ∙ ap (plain_check table) c.has_room-room.ensures in
-    let whole : (l : Left) → l ≡ opening table c.args.stamp c.args.place c.args.capacity c.args.flow.now c.args.side.now c.args.work.now → (l ≡ opening table c.args.stamp c.args.place c.args.capacity c.args.flow.now c.args.side.now c.args.work.now) × ((l.answer.refusal ≡ 0 → Reopens table.table (opened table.table c.args.place c.args.capacity) c.args.flow.now l) × (l.answer.refusal ≡ 23 → MaximumFlow table.table c.args.flow.now → ⊥)) = λ l e. ( e, ( opening_reopens table c.args.stamp c.args.place c.args.capacity c.args.flow.now c.args.side.now c.args.work.now l e, opening_notmax table c.args.stamp c.args.place c.args.capacity c.args.flow.now c.args.side.now c.args.work.now l e, ), in
+    let found : c.plain_check.result ≡ plain_check table (has_room c.args.n (length c.args.capacities.now) (length c.args.flow.now) (length c.args.side.now) (length c.args.work.now)) =
+    c.plain_check.ensures ∙ ap (plain_check table) c.has_room-room.ensures in
     let given = c.args in
-    let the_facts = whole _ (fine_own table given.stamp given.place given.capacity given.flow.now given.side.now given.work.now _ found c.in-Fine.is _ c.open_accepted.ensures) in record {
-      exact = the_facts.0;
-      best = the_facts.1.0;
-      notmax = the_facts.1.1;
+    let exact : left c.open_accepted.result c.open_accepted.new.flow c.open_accepted.new.side c.open_accepted.new.work ≡ opening table given.stamp given.place given.capacity given.flow.now given.side.now given.work.now =
+    fine_own table given.stamp given.place given.capacity given.flow.now given.side.now given.work.now _ found c.in-Fine.is _ c.open_accepted.ensures in record {
+      exact = exact;
+      best = opening_reopens table given.stamp given.place given.capacity given.flow.now given.side.now given.work.now _ exact;
+      notmax = opening_notmax table given.stamp given.place given.capacity given.flow.now given.side.now given.work.now _ exact;
     }

@@ -28,4 +28,4 @@ pub returns : goal.returns
 returns c =
     let given = c.args in
     reduced_longer (table_of given.n given.s given.t given.tails.now given.heads.now given.capacities.now) given.stamp given.flow.now given.side.now given.work.now
-    (small_rows given.small-tails.now given.small-heads.now given.small-capacities.now given.nodes_from.now given.arcs_from.now) c.reduce_marked.result _ _ _ _ c.requires.n_in_bounds.6 c.reduce_marked.ensures
+    (small_rows given.small_tails.now given.small_heads.now given.small_capacities.now given.nodes_from.now given.arcs_from.now) c.reduce_marked.result _ _ _ _ c.requires.n_in_bounds.6 c.reduce_marked.ensures

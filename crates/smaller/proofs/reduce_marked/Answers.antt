@@ -25,7 +25,7 @@ write_small-sizes-requires c =
 
 pub solve_small-answer-requires : goal.solve_small-answer-requires
 solve_small-answer-requires c =
-    let small : SmallRows = let args = c.args in small_rows args.small-tails.now args.small-heads.now args.small-capacities.now args.nodes_from.now args.arcs_from.now in
+    let small : SmallRows = let args = c.args in small_rows args.small_tails.now args.small_heads.now args.small_capacities.now args.nodes_from.now args.arcs_from.now in
     let table : Table = table_of c.args.n c.args.s c.args.t c.args.tails.now c.args.heads.now c.args.capacities.now in
     let accepted : Accepted table = c.requires.fact.0 in
     let is_made : Made table accepted c.args.ahead.now c.args.behind.now c.requires.fact.2 c.requires.fact.3 small c.write_small-sizes.result _ c.write_small-sizes.ensures = made table accepted c.args.ahead.now c.args.behind.now c.requires.fact.2 c.requires.fact.3 small c.write_small-sizes.result _ c.write_small-sizes.ensures in
@@ -48,7 +48,7 @@ solve_small-answer-requires c =
 
 pub put_all_back-requires : goal.put_all_back-requires
 put_all_back-requires c =
-    let small : SmallRows = let args = c.args in small_rows args.small-tails.now args.small-heads.now args.small-capacities.now args.nodes_from.now args.arcs_from.now in
+    let small : SmallRows = let args = c.args in small_rows args.small_tails.now args.small_heads.now args.small_capacities.now args.nodes_from.now args.arcs_from.now in
     let table : Table = table_of c.args.n c.args.s c.args.t c.args.tails.now c.args.heads.now c.args.capacities.now in
     let accepted : Accepted table = c.requires.fact.0 in
     let is_made : Made table accepted c.args.ahead.now c.args.behind.now c.requires.fact.2 c.requires.fact.3 small c.write_small-sizes.result _ c.write_small-sizes.ensures = made table accepted c.args.ahead.now c.args.behind.now c.requires.fact.2 c.requires.fact.3 small c.write_small-sizes.result _ c.write_small-sizes.ensures in
@@ -78,7 +78,7 @@ shape_of-arcs_from c = c.write_small-sizes.auto.arcs_from
 
 pub returns : goal.returns
 returns c =
-    let small : SmallRows = let args = c.args in small_rows args.small-tails.now args.small-heads.now args.small-capacities.now args.nodes_from.now args.arcs_from.now in
+    let small : SmallRows = let args = c.args in small_rows args.small_tails.now args.small_heads.now args.small_capacities.now args.nodes_from.now args.arcs_from.now in
     let table : Table = table_of c.args.n c.args.s c.args.t c.args.tails.now c.args.heads.now c.args.capacities.now in
     let accepted : Accepted table = c.requires.fact.0 in
     let given = c.args in

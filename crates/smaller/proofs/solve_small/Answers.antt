@@ -23,7 +23,7 @@ solve_table-requires c =
 
 pub returns : goal.returns
 returns c =
-    let table : Table = let args = c.args in table_of args.nodes args.source args.sink (take args.arcs args.small-tails.now) (take args.arcs args.small-heads.now) (take args.arcs args.small-capacities.now) in
+    let table : Table = let args = c.args in table_of args.nodes args.source args.sink (take args.arcs args.small_tails.now) (take args.arcs args.small_heads.now) (take args.arcs args.small_capacities.now) in
     let long : length (take c.args.arcs c.args.small_capacities.now) ≡ c.args.arcs = length-take-le c.args.arcs c.args.small_capacities.now c.requires.arcs_in_bounds.2 in
     let given = c.args in
     solved_found table c.requires.accepted given.stamp given.arcs given.flows.now given.marks.now given.room.now c.solve_table.result _ _ _ long c.solve_table.ensures
