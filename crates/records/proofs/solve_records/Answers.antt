@@ -1,0 +1,10 @@
+-- `solve_records` meets its contract: solving the columns that all records fill is solving the records' table.
+use Rattle.planner.specs.Solving.{signed_left}
+use Rattle.records.proofs.Fronts.{promised}
+use Rattle.records.proofs.solve_records.Goals as goal
+
+pub returns : goal.returns
+returns c =
+    let a = c.args in
+    promised a.n a.s a.t a.stamp a.arcs.now a.flow.now a.side.now a.work.now c.copy_arcs-row.ensures
+    (signed_left c.solve_row.result c.solve_row.new.flow c.solve_row.new.side c.solve_row.new.work) c.solve_row.ensures
