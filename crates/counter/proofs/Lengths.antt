@@ -1,15 +1,13 @@
 -- The desk prints at most 35,061 bytes: eight lines of 233 together; `side=` and 4 bytes for each of 512 nodes; LF, `flow=`, and 8 bytes for
 -- each of 4,096 flows; and LF.
-use Prim.Native.Nat.{ℕ, zero, suc, ◌+◌, ◌*◌, ◌/◌, ◌%◌, ◌^◌, ◌<◌, ◌≤◌}
+use Prim.Native.Nat.{ℕ, suc, ◌+◌, ◌*◌, ◌^◌, ◌<◌, ◌≤◌}
 use mathlib.Core.Path.{◌≡◌, refl}
 use mathlib.Core.Bool.{Bool, true, false, cond}
-use mathlib.Core.List.{List, [], ◌∷◌, ◌++◌}
-use native.Mathlib.Nat.{pow-suc}
+use mathlib.Core.List.{List, [], ◌∷◌}
 use native.Mathlib.Decide.{dec_lt}
 use native.Mathlib.Omega.{arith}
 use lib.Dec.{ltb, eqb}
 use lib.ListN.{length, get_or, take, length-append, length-take}
-use borrow.Author.Tests.{lt-ltb, le-ltb}
 use Rattle.table.specs.declared.Name.{Name}
 use Rattle.table.specs.declared.Name.TheVariants.{Long, Impossible}
 use Rattle.table.proofs.Numbers.{name_short}
@@ -23,7 +21,7 @@ use Rattle.scan.specs.Parts.{lines}
 use Rattle.text.specs.Reading.{table_in, given_by}
 use Rattle.text.proofs.Accepting.{read_accepts}
 use Rattle.report.specs.declared.Summary.{Summary}
-use Rattle.pen.specs.Printed.{digits_of, further, spaced}
+use Rattle.pen.specs.Printed.{further, spaced}
 use Rattle.pen.proofs.Digits.{digits_most, digits_below}
 use Rattle.report.specs.Printed.{marked_nodes, number_lines, solved_text, refused_text}
 use Rattle.counter.specs.Desk.{summary_of, zeros, TableText, solved, impossible, AnswerText, DeskAs, DeskText, Passes}

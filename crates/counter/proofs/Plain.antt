@@ -17,7 +17,7 @@ use Rattle.text.specs.declared.Given.{Given}
 use Rattle.text.specs.declared.Given.TheVariants.{Read, Refusal}
 use Rattle.text.specs.Reading.{table_in, given_by}
 use Rattle.text.proofs.Accepting.{read_accepts}
-use Rattle.planner.specs.Solving.{SignedLeft, left_with_sign, SolvesAs}
+use Rattle.planner.specs.Solving.{left_with_sign, SolvesAs}
 use Rattle.planner.specs.declared.Signed.{Signed}
 use Rattle.planner.proofs.Plain.{plain_greatest}
 use Rattle.planner.proofs.Demands.{solves_well}

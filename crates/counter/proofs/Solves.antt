@@ -14,17 +14,17 @@ use Rattle.table.specs.declared.Verdict.TheVariants.{Fine, Refused}
 use Rattle.table.specs.Table.{arcs}
 use Rattle.table.specs.Checks.{is_fine}
 use Rattle.minimums.specs.BoundedTable.{BoundedTable, AcceptedBounded}
-use Rattle.minimums.specs.Checks.{bounded_check, plain}
+use Rattle.minimums.specs.Checks.{plain}
 use Rattle.minimums.proofs.Accepting.{plain_check_lem}
 use Rattle.minimums.proofs.Faults.{bounded_accepts}
 use Rattle.arcs.specs.Work.{work_need}
 use Rattle.feasible.specs.Flows.{NoFlow}
-use Rattle.solver.specs.Solving.{Left, has_room, answer_with, solved, solving_verdict, solving}
+use Rattle.solver.specs.Solving.{has_room, answer_with, solved, solving_verdict, solving}
 use Rattle.solver.proofs.Solved.{fine_solving}
 use Rattle.pen.specs.Wrote.{Wrote}
 use Rattle.report.specs.Printed.{refused_text}
 use Rattle.planner.specs.Solving.{SignedLeft, left_with_sign, Bounding, impossible, found, BoundingAs, bounded_verdict, SolvesAs, Solves}
-use Rattle.counter.specs.Desk.{zeros, left_text, text_by, TableText, Printed, Passes}
+use Rattle.counter.specs.Desk.{zeros, left_text, text_by, Printed, Passes}
 use Rattle.counter.specs.Desk.{solved as of_solved, impossible as of_none}
 
 -- The one verdict that is fine.
