@@ -14,7 +14,7 @@ unfoldable pub answer_text : (text : List ℕ) → Given → List ℕ
 answer_text text (Read n m s t) = table_text (table_in (lines text) n s t).table
 answer_text text (Refusal name place) = refused_text name place
 
--- What is printed for such a text, and nothing else may be (proved: desk-alone): more than 65,536 bytes is LONG; the arc rows hold 4,096 places.
+-- What is printed for such a text, and nothing else may be (proved: desk_alone): more than 65,536 bytes is LONG; the arc rows hold 4,096 places.
 unfoldable pub desk_text : (text : List ℕ) → List ℕ
 desk_text text = cond (ltb 65536 (length text)) (refused_text Long 0) (answer_text text (given_by text 4096 4096 4096 4096))
 
