@@ -60,12 +60,16 @@ sum_of_sources() {
 # is_made FILE SUM: whether the file was made of the sources of that sum.
 is_made() { [ -f "$1" ] && [ "$(cat "$1.sources" 2>/dev/null)" = "$2" ]; }
 
-# crate_of FILE: the crate of which target/bin/NAME or target/staticlib/libNAME.a is made: NAME, or NAME_c where that has NAME's C names.
+# crate_of FILE: the crate of which target/bin/NAME or target/staticlib/libNAME.a is made: NAME, or NAME_c where that has the library's C names.
 crate_of() {
     local name
     name=$(basename "$1" .a)
-    case $1 in *.a) name=${name#lib} ;; esac
-    [ ! -d "crates/${name}_c" ] || name+=_c
+    case $1 in
+    *.a)
+        name=${name#lib}
+        [ ! -d "crates/${name}_c" ] || name+=_c
+        ;;
+    esac
     echo "$name"
 }
 
