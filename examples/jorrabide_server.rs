@@ -1,4 +1,4 @@
-//! Jorrabide's calls for a booking server as safe functions, over the static library that `rt staticlib server` writes.
+//! Jorrabide's calls for a booking server as safe functions, over the static library that `host/staticlib server` writes.
 //! include/jorrabide_server.h says what the byte rows hold.
 
 #[rustfmt::skip]

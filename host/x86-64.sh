@@ -1,12 +1,11 @@
 # To be sourced, in the top folder or above it. What Rattle compiles is for x86-64: proves and builds it where that was not done, links C
-# programs with it, and runs them as rt does, on any processor that the kit is for.
+# programs with it, and runs them over the kit's own C library.
 command -v rt >/dev/null || { echo "rt, the command of the Rattle kit, is not in PATH" >&2; exit 2; }
 kit=${RATTLE_HOME:-$(dirname "$(dirname "$(readlink -f "$(command -v rt)")")")}
-tools=$kit/on/$(uname -m)/toolchain
+tools=$kit/toolchain
 
-# The words before an x86-64 program that run it: the kit's C library, and its emulator on another processor.
+# The words before a program that run it over the kit's C library.
 on_x86_64=("$tools/lib/ld-linux-x86-64.so.2" --library-path "$tools/lib")
-[ ! -x "$tools/bin/qemu-x86_64" ] || on_x86_64=("$tools/bin/qemu-x86_64" "${on_x86_64[@]}")
 
 # link_x86_64 PROGRAM SOURCE.c LIBRARY.a..: compiles a C program and links it with static libraries of Rattle's and the kit's C library.
 link_x86_64() {
@@ -34,22 +33,16 @@ needed_by() {
         END { count = split(wanted, crates, " "); for (k = 1; k <= count; k++) need(crates[k]) }' crates.txt
 }
 
-# proved_since FILE CRATE..: how many of the crates were proved, or seen to be unchanged, after the file was made.
-proved_since() {
-    local crate count=0
-    for crate in "${@:2}"; do
-        if [ "target/log/$crate.res" -nt "$1" ] && grep -q -e proved -e built "target/log/$crate.res"; then count=$((count + 1)); fi
-    done
-    echo "$count"
-}
+# named_by CRATE: what its line of crates.txt names, one to a line: crates of this folder and libraries of the kit.
+named_by() { awk -v crate="$1" '{ sub(/#.*/, ""); kind = sub(/:/, " ") } kind && $1 == crate { for (i = 2; i <= NF; i++) if ($i != "staticlib") print $i }' crates.txt; }
 
-# show_progress PROCESS FILE CRATE..: says on standard error how many of the crates are proved since the file was made, while the process
-# runs: on a line that is rewritten on a terminal, on a line a minute elsewhere.
+# show_progress PROCESS LOG COUNT: says on standard error how many of at most COUNT crates the log has as proved, while the process runs: on a
+# line that is rewritten on a terminal, on a line a minute elsewhere.
 show_progress() {
     local seconds=0 line
     while kill -0 "$1" 2>/dev/null; do
         if [ -t 2 ] || [ $((seconds % 60)) -eq 59 ]; then
-            line="$(proved_since "${@:2}") of $(($# - 2)) crates proved"
+            line="$(grep -c '^logic=proved' "$2" || true) of at most $3 crates proved"
             if [ -t 2 ]; then printf '\r%s' "$line" >&2; else echo "$line" >&2; fi
         fi
         sleep 1
@@ -58,45 +51,97 @@ show_progress() {
     [ ! -t 2 ] || printf '\r\033[K' >&2
 }
 
-# prove CRATE..: proves them, as many at a time as the gate does, and shows how far it is; and what rt said, if something is not proved.
-prove() {
-    local log=target/proving.log began=target/proving.began process needed
-    mapfile -t needed < <(needed_by "$@")
-    touch "$began"
-    RT_JOBS=8 rt check "$@" </dev/null >"$log" 2>&1 &
-    process=$!
-    show_progress "$process" "$began" "${needed[@]}"
-    wait "$process" || { cat "$log" >&2; return 1; }
-}
-
 # What every proof rests on, the kit and the sources, as one sum.
-sum_of_sources() { { rt version && find crates crates.txt -type f -print0 | sort -z | xargs -0 sha256sum; } | sha256sum; }
+sum_of_sources() {
+    { { cat "$kit/KIT-ID" 2>/dev/null || rt version; } &&
+        find crates crates.txt -path 'crates/*/out' -prune -o -type f -print0 | sort -z | xargs -0 sha256sum; } | sha256sum
+}
 
 # is_made FILE SUM: whether the file was made of the sources of that sum.
 is_made() { [ -f "$1" ] && [ "$(cat "$1.sources" 2>/dev/null)" = "$2" ]; }
 
+# crate_of FILE: the crate of which target/bin/NAME or target/staticlib/libNAME.a is made: NAME, or NAME_c where that has the library's C names.
+crate_of() {
+    local name
+    name=$(basename "$1" .a)
+    case $1 in
+    *.a)
+        name=${name#lib}
+        [ ! -d "crates/${name}_c" ] || name+=_c
+        ;;
+    esac
+    echo "$name"
+}
+
+# built_by_rt FILE CRATE: makes the file by the kit's command, which proves the crate and all that it rests on first. A program is also run then, on
+# its own sample.
+built_by_rt() {
+    local log=target/proving.log process needed
+    needed=$(needed_by "$2" | wc -l)
+    : >"$log"
+    case $1 in
+    *.a) (cd "crates/$2" && exec rt lib) </dev/null >"$log" 2>&1 & ;;
+    *) (cd "crates/$2" && exec rt run) <"crates/$2/stdin" 2>"$log" >/dev/null & ;;
+    esac
+    process=$!
+    show_progress "$process" "$log" "$needed"
+    case $1 in
+    *.a) wait "$process" && cp "crates/$2/out/lib$2.a" "$1" ;;
+    *) wait "$process"; grep -q "^rt: running out/$2;" "$log" && cp "crates/$2/out/$2" "$1" ;;
+    esac || { cat "$log" >&2; return 1; }
+}
+
+# note_gate: notes that the gate proved these very sources here.
+note_gate() { mkdir -p target && sum_of_sources >target/gate.sources; }
+
+# built_by_gate FILE CRATE SUM: makes the file of what the gate proved here of the sources of that sum, if it did and that still stands: the program
+# that it ran, or the static library over the libraries that it built, of which this proves that one crate again.
+built_by_gate() {
+    local crate needed words
+    [ "$(cat target/gate.sources 2>/dev/null)" = "$3" ] || return
+    case $1 in
+    *.a)
+        mapfile -t needed < <(needed_by "$2" | grep -vx "$2")
+        words=(--crate-name "$2" src/lib.rt -L "dependency=$kit/rlibs" --extern "core=$kit/rlibs/core.rlib" --extern "std=$kit/rlibs/std.rlib")
+        for crate in "${needed[@]}"; do
+            # A stamp is of a library that another command built since.
+            [ -f "crates/$crate/out/rlib/$crate.rlib/format" ] && [ ! -e "crates/$crate/out/rlib/stamp" ] || return
+            words+=(-L "dependency=../$crate/out/rlib")
+        done
+        for crate in $(named_by "$2"); do
+            if [ -d "crates/$crate" ]; then words+=(--extern "$crate=../$crate/out/rlib/$crate.rlib"); else words+=(--extern "$crate=$kit/rlibs/$crate.rlib"); fi
+        done
+        words+=(--antt-project "$kit/rattle/logic/antt-project.json" --logic-built "$kit/logic_built" --links "$2=" --jobs 1)
+        words+=(--crate-type staticlib --toolchain "$kit/toolchain" --backend llvm -o "../../$1")
+        (cd "crates/$2" && "$kit/bin/rattle" build "${words[@]}") </dev/null >"$1.log" 2>&1
+        ;;
+    *) [ ! -e "crates/$2/out/$2.stamp" ] && cp "crates/$2/out/$2" "$1" 2>/dev/null ;;
+    esac
+}
+
 # make_proved FILE..: proves and builds target/bin/CRATE, a program, or target/staticlib/libCRATE.a, a static library, where that was not done
 # for these very sources; one at a time in a folder. Says first that it does, and why.
 make_proved() {
-    local file crate sum wanted=() crates=() why="that was not done here yet" lock
+    local file crate sum wanted=() crates=() made=() why="that was not done here yet" lock k
+    mkdir -p target/bin target/staticlib
     sum=$(sum_of_sources) || return
-    mkdir -p target
     exec {lock}>target/proving.lock
     flock --nonblock "$lock" || { echo "waiting for another that proves and builds here" >&2; flock "$lock"; }
     for file; do
         is_made "$file" "$sum" && continue
         wanted+=("$file")
-        crate=$(basename "$file" .a)
-        case $file in *.a) crate=${crate#lib} ;; esac
-        crates+=("$crate")
+        crates+=("$(crate_of "$file")")
         [ ! -f "$file.sources" ] || why="the sources changed"
     done
     if [ ${#wanted[@]} -gt 0 ]; then
         echo "proving and building ${crates[*]} first, because $why: $(needed_by "${crates[@]}" | wc -l) crates, some minutes" >&2
-        prove "${crates[@]}" || return
-        for file in "${wanted[@]}"; do
-            case $file in *.a) crate=$(basename "$file" .a) && rt staticlib "${crate#lib}" >target/proving.log 2>&1 || { cat target/proving.log >&2; return 1; } ;; esac
-            echo "$sum" >"$file.sources"
+        for k in "${!wanted[@]}"; do
+            built_by_gate "${wanted[k]}" "${crates[k]}" "$sum" &
+            made+=($!)
+        done
+        for k in "${!wanted[@]}"; do
+            wait "${made[k]}" || built_by_rt "${wanted[k]}" "${crates[k]}" || return
+            echo "$sum" >"${wanted[k]}.sources"
         done
     fi
     exec {lock}>&-

@@ -1,4 +1,4 @@
-/* Jorrabide's calls for C, of the static library that `rt staticlib calls` writes (x86-64).
+/* Jorrabide's calls for C, of the static library that `host/staticlib calls` writes (x86-64).
    docs/PROMISES.md says what each promises. Any numbers and rows are answered; rows that are written must not overlap another row. */
 #ifndef JORRABIDE_H
 #define JORRABIDE_H

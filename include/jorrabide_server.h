@@ -1,4 +1,4 @@
-/* Jorrabide's calls for a booking server, of the static library that `rt staticlib server` writes (x86-64): on numbers and byte rows, all
+/* Jorrabide's calls for a booking server, of the static library that `host/staticlib server` writes (x86-64): on numbers and byte rows, all
    numbers little-endian. docs/PROMISES.md says what each promises. Any numbers and rows are answered; rows that are written must not overlap
    another row.
 

@@ -9,9 +9,9 @@ use Rattle.clerk.specs.declared.Taken.TheVariants as taken
 abbrev pub TurnWithin : (filled size : ℕ) → Turn → Type 0
 TurnWithin filled size (Filled next) = (filled < next) × (next ≤ size)
 TurnWithin filled size Ended = Unit {0}
-TurnWithin filled size Failed = Unit {0}
+TurnWithin filled size (Failed why) = Unit {0}
 
 -- What was read whole ends within the row.
 abbrev pub TakenWithin : (size : ℕ) → Taken → Type 0
 TakenWithin size (taken.Whole length) = length ≤ size
-TakenWithin size taken.Failed = Unit {0}
+TakenWithin size (taken.Failed why) = Unit {0}

@@ -5,4 +5,4 @@ use mathlib.Core.Path.{sym}
 use Rattle.clerk.proofs.print_answer.Goals as goal
 
 pub slice_bounds-print-end : goal.slice_bounds-print-end
-slice_bounds-print-end c = sym (length-take-le _ _ (wrote_within c.serve-wrote.ensures.wrote))
+slice_bounds-print-end g c = sym (length-take-le _ _ (wrote_within c.serve-wrote.ensures.wrote))
