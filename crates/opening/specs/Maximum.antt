@@ -36,7 +36,7 @@ is_flow t flow =
     is_within t.capacities flow
     && is_kept t.source t.sink (inflow (network_of t) (at_place flow)) (outflow (network_of t) (at_place flow)) t.nodes
 
--- Whether they are a maximum flow: a flow whose side does not have the sink (proved: maximum-test).
+-- Whether they are a maximum flow: a flow whose side does not have the sink (proved: maximum_test).
 unfoldable pub is_maximum : Table → List ℕ → Bool
 unfolding is_flow
 is_maximum t flow = is_flow t flow && not (marked (side_of t flow) t.sink)

@@ -96,7 +96,7 @@ pub record Piece : Type 0 where
 abbrev pub piece : (kind amount : ℕ) (places : List ℕ) → Piece
 piece kind amount places = record { kind = kind; amount = amount; places = places }
 
--- What the walk from its start finds, in a step for each node (proved: walk-finds, so many are enough).
+-- What the walk from its start finds, in a step for each node (proved: walk_finds, so many are enough).
 unfoldable pub found_in : (nodes source sink : ℕ) (tails heads left : List ℕ) → Found
 unfolding walk start_at
 found_in nodes source sink tails heads left = walk tails heads sink left nodes [] (start_at tails source left)

@@ -54,7 +54,7 @@ unfolding choose step
 phase_for t delta zero r = r
 phase_for t delta (suc left) r = elim (choose t delta r.state) [ Nothing ↦ r | Node i ↦ phase_for t delta left (step t delta r i) ]
 
--- More steps than a phase takes (proved: phase-ended).
+-- More steps than a phase takes (proved: phase_ended).
 abbrev pub enough : Table → ℕ
 enough t = 6 * (t.nodes * t.nodes) + 2 * (t.nodes * arcs t)
 

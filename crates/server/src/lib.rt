@@ -1,5 +1,6 @@
 // The booking server's two calls (document 02, CR 4), for a program in C or Rust to link: those of `booking`, under names of their own.
 #![tactic(auto)]
+
 ghost use Rattle.std.specs.Prelude.{◌≡◌};
 ghost use Rattle.wire.specs.Rows.{arc_table};
 ghost use Rattle.wire.specs.Solve.{serving, served};

@@ -27,7 +27,7 @@ pub data Leads (t : Table) : (i j : ℕ) → Type 0 where
   here : {i : ℕ} → Leads t i i
   over : (k : ℕ) {j : ℕ} → k < arcs t → 0 < capacity t k → Leads t (head t k) j → Leads t (tail t k) j
 
--- In those words a node is live (proved: live-leads, leads-live).
+-- In those words a node is live (proved: live_leads, leads_live).
 pub record Live (t : Table) (i : ℕ) : Type 0 where
   pub from_source : Leads t t.source i
   pub to_sink : Leads t i t.sink

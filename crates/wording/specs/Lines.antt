@@ -82,7 +82,7 @@ Shares (suc count) text other =
     (is_ended text ≡ true) × (is_ended other ≡ true) × (first_line text ≡ first_line other) × Shares count (behind_line text) (behind_line other)
 
 -- The line of this number is the first that no solution text of the table has there: some solution text has the lines before it, and none has these
--- and this one (proved: stops-first). A line that is missing, or has no LF, no text has.
+-- and this one (proved: stops_first). A line that is missing, or has no LF, no text has.
 pub record FirstWrong (t : Table) (text : List ℕ) (line : ℕ) : Type 0 where
   pub before : ℕ
   pub next : line ≡ suc before
