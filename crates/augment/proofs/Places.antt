@@ -10,7 +10,6 @@ use lib.ListN.{length}
 use borrow.Author.Tests.{ltb-true, ltb-false, ne_eqb}
 use Rattle.rows.specs.Row.{at_place}
 use Rattle.rows.proofs.Sums.{by_test, by_equal}
-use Rattle.arcs.specs.Residual.{list}
 use Rattle.shortest.specs.Ways.{Ways}
 use Rattle.shortest.specs.Distance.{leads_by, leads_to, next}
 use Rattle.measuring.specs.Visits.{ListOf}

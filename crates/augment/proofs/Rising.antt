@@ -7,7 +7,6 @@ use mathlib.Core.List.{List}
 use native.Mathlib.Omega.{arith}
 use lib.Dec.{ltb}
 use lib.ListN.{length, get_or, set, length-set}
-use borrow.Author.Tests.{not-true, not-false}
 use Rattle.rows.specs.Row.{at_place, at_node, Node}
 use Rattle.rows.proofs.Rows.{node_at}
 use Rattle.rows.proofs.Sums.{by_test, by_equal}
@@ -16,7 +15,7 @@ use Rattle.shortest.specs.Ways.{Ways, Leads, ahead, behind, other_end}
 use Rattle.shortest.specs.Distance.{leads_to}
 use Rattle.shortest.specs.Labels.{Labels}
 use Rattle.shortest.specs.Rows.{row_ways, Rows}
-use Rattle.shortest.proofs.Ends.{Ends, leads_within, rows_ends}
+use Rattle.shortest.proofs.Ends.{Ends, leads_within}
 use Rattle.shortest.proofs.Laying.{set_there, set_elsewhere}
 use Rattle.shortest.proofs.Chains.{leads_place, leads_to_leads, leads_leads_to}
 use Rattle.measuring.specs.Visits.{ListOf}

@@ -1,5 +1,6 @@
 // The front door's calls for a program in C or Rust to link, as the host's comparisons do: the crates' own, under names of their own.
 #![tactic(auto)]
+
 ghost use Rattle.std.specs.Prelude.{◌≡◌};
 ghost use Rattle.table.specs.Table.{lent_table};
 ghost use Rattle.minimums.specs.BoundedTable.{lent_bounded};

@@ -7,7 +7,6 @@ use lib.Seq.{drop-length}
 use lib.Dec.{ltb}
 use borrow.Author.Fill.{fill_more}
 use borrow.Author.Tests.{eq-eqb, ne_eqb}
-use Rattle.rows.specs.Row.{Node}
 use Rattle.reach.proofs.Visiting.{left_test}
 use Rattle.shortest.specs.Ways.{other_end}
 use Rattle.measuring.specs.Visits.{may_into, Front, give_of}

@@ -6,7 +6,7 @@ use mathlib.Core.List.{List, [], ◌∷◌}
 use native.Mathlib.Omega.{arith}
 use borrow.Author.Tests.{eq-eqb}
 use lib.Dec.{eqb, ltb}
-use lib.ListN.{length, length-map}
+use lib.ListN.{length-map}
 use Rattle.table.specs.Refusals.{number_of, refusal_in}
 use Rattle.table.specs.Checks.{refuse_if, outside, differ, bad_ends, arc_fault, or_else, in_order}
 use Rattle.table.specs.declared.Name.{Name}

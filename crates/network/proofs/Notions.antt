@@ -1,5 +1,5 @@
 -- What only proofs speak of: preflows and residual arcs out of a node; with them what follows at once from a sound network.
-use Prim.Native.Nat.{ℕ, ◌+◌, ◌-◌, ◌≤◌, ◌<◌}
+use Prim.Native.Nat.{ℕ, ◌+◌, ◌≤◌, ◌<◌}
 use mathlib.Core.Path.{◌≡◌, refl, ap, ap₂, sym}
 use mathlib.Core.Bool.{Bool, true, false, not, ◌&&◌}
 use native.Mathlib.Omega.{arith}

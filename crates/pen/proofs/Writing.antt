@@ -2,11 +2,10 @@
 use Prim.Native.Nat.{ℕ, suc, ◌+◌, ◌<◌, ◌≤◌, min}
 use mathlib.Core.Path.{◌≡◌, refl, sym, ap, ◌∙◌}
 use mathlib.Core.List.{List, [], ◌∷◌, ◌++◌, append_assoc, append-nil}
-use native.Mathlib.Nat.{add-zero, add-suc, suc-add}
 use native.Mathlib.Numerals.{add-one}
 use native.Mathlib.Omega.{arith}
 use native.Mathlib.Decide.{dec_le}
-use lib.ListN.{length, get_or, set, take, drop, length-append}
+use lib.ListN.{length, get_or, take, drop, length-append}
 use lib.Seq.{sets, length-sets, set_out, drop-cons, sets-eq, take_at}
 use Rattle.rows.proofs.Storing.{sets_append}
 use Rattle.pen.specs.Wrote.{Wrote}

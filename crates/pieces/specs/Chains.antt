@@ -1,5 +1,5 @@
 -- Document 02, CR 3: chains from source to sink and rings of a flow, as lists of places. All of it computes.
-use Rattle.std.specs.Prelude.{ℕ, zero, suc, ◌+◌, ◌-◌, min, Bool, cond, ◌&&◌, List, [], ◌∷◌, ◌++◌, length, set, drop, eqb, ltb}
+use Rattle.std.specs.Prelude.{ℕ, zero, suc, ◌-◌, min, Bool, cond, ◌&&◌, List, [], ◌∷◌, ◌++◌, length, set, drop, eqb, ltb}
 use Rattle.rows.specs.Row.{at_place}
 use Rattle.table.specs.Table.{Table}
 

@@ -1,5 +1,6 @@
 // The entry over arc records under its C name: for the host's comparisons.
 #![tactic(auto)]
+
 ghost use Rattle.minimums.specs.BoundedTable.{record_table};
 ghost use Rattle.planner.specs.Solving.{signed_left};
 ghost use Rattle.records.specs.Solve.{Promised};

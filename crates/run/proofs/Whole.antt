@@ -5,7 +5,6 @@ use mathlib.Core.List.{List, [], ◌∷◌}
 use native.Mathlib.Omega.{arith}
 use lib.ListN.{length}
 use Rattle.rows.specs.Sum.{sum, total}
-use Rattle.rows.proofs.Functions.{nodes}
 use Rattle.rows.specs.Row.{at_node, at_place}
 use Rattle.rows.proofs.Sums.{sum_bound, sum_term}
 use Rattle.network.proofs.Notions.{Preflow}

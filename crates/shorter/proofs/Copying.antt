@@ -12,7 +12,6 @@ use Rattle.rows.proofs.Storing.{sets_front}
 use Rattle.table.specs.Refusals.{number_of}
 use Rattle.table.specs.declared.Name.TheVariants.{Room}
 use Rattle.table.specs.declared.Verdict.TheVariants.{Fine}
-use Rattle.listing.specs.Passing.{filled_with}
 use Rattle.shorter.specs.Shorter.{shorter_of, left_part, part_with, copied}
 
 module _ (numbers row : List ℕ) where

@@ -1,5 +1,5 @@
 -- Laws of what a step brings to the sink, and of the net flow into it.
-use Prim.Native.Nat.{ℕ, ◌-◌}
+use Prim.Native.Nat.{ℕ}
 use mathlib.Core.Path.{◌≡◌, refl}
 use mathlib.Core.List.{List}
 use Rattle.table.specs.Table.{Table, table_of}

@@ -33,7 +33,7 @@ use Rattle.run.proofs.Choices.{choose_chosen, choose_ended}
 use Rattle.run.proofs.Trails.{Trail, no_trail, step_trail, trail_facts}
 use Rattle.run.proofs.Beginning.{start_fits, start_flow_at_lem}
 use Rattle.run.proofs.Doubling.{halved}
-use Rattle.run.proofs.Whole.{capacity_in_all, begin_facts, end_facts}
+use Rattle.run.proofs.Whole.{capacity_in_all, begin_facts}
 use Rattle.run.proofs.Answers.{run_best}
 use Rattle.joined.proofs.Balance.{ends_balance}
 use Rattle.until.specs.Stepwise.{Stage, stage, next, stage_after, after_steps}

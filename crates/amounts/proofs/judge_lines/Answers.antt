@@ -1,5 +1,5 @@
 -- `judge_lines` meets its contract: judging all lines is judging those from `start` on with what was said so far.
-use Prim.Native.Nat.{◌-◌, ◌≤◌}
+use Prim.Native.Nat.{◌≤◌}
 use mathlib.Core.Path.{sym, ◌∙◌}
 use native.Mathlib.Omega.{arith}
 use lib.ListN.{length}

@@ -1,5 +1,4 @@
 -- `fill` meets its contract. The loop's invariant: the first p arcs are filled, and what is left fits. The measure is what is left of the chain.
-use Prim.Native.Nat.{◌-◌}
 use native.Mathlib.Omega.{arith}
 use lib.ListN.{get_or}
 use Rattle.augment.proofs.Pouring.{poured_moves, poured_start, poured_head, poured_on, poured_done}

@@ -1,7 +1,5 @@
 -- `next_place` meets its contract. The invariant: none of the first p places of the list leads one nearer.
-use Prim.Native.Nat.{◌-◌}
 use mathlib.Core.Path.{sym, ◌∙◌}
-use mathlib.Core.Bool.{false}
 use native.Mathlib.Omega.{arith}
 use borrow.Author.Rules.{rules}
 use Rattle.shortest.specs.Ways.{Ways}

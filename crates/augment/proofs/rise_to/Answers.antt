@@ -1,5 +1,4 @@
 -- `rise_to` meets its contract. The invariant: what the first p arcs of the list let the label rise to. The measure is what is left of the list.
-use Prim.Native.Nat.{◌-◌}
 use native.Mathlib.Omega.{arith}
 use borrow.Author.Rules.{rules}
 use Rattle.augment.proofs.Rising.{rising_start, rising_turn, rising_done}

@@ -1,5 +1,4 @@
 -- `put_all32` meets its contract. The loop's invariant: the first k numbers stand in front.
-use Prim.Native.Nat.{◌-◌}
 use mathlib.Core.Path.{refl, ◌∙◌}
 use native.Mathlib.Omega.{arith}
 use Rattle.little.proofs.Bytes.{written_none, written_all, written_next}

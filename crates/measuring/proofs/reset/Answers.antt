@@ -1,5 +1,5 @@
 -- `reset` meets its contract: the loop sets every place, from the front.
-use Prim.Native.Nat.{◌<◌, ◌-◌}
+use Prim.Native.Nat.{◌<◌}
 use mathlib.Core.Path.{◌≡◌, refl}
 use lib.ListN.{length, length-set}
 use borrow.Author.Rules.{rules}

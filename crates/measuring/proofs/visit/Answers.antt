@@ -1,5 +1,4 @@
 -- `visit` meets its contract. The loop's invariant: what was done so far is `look_to` over the first p places of the list, and there is room for more.
-use Prim.Native.Nat.{◌-◌}
 use mathlib.Core.Path.{◌∙◌}
 use native.Mathlib.Nat.{le_antisymm}
 use borrow.Author.Rules.{rules}

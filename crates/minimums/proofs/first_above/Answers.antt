@@ -1,5 +1,4 @@
 -- `first_above` meets its contract. The invariant: no minimum below the place is above its capacity. The measure is what is left before the end.
-use Prim.Native.Nat.{◌-◌}
 use native.Mathlib.Omega.{arith}
 use borrow.Author.Count.{below_more}
 use Rattle.minimums.specs.Checks.{none, first}

@@ -1,5 +1,4 @@
 -- `is_all_zero` meets its contract. The invariant: what is left of the row decides. The measure is its length.
-use Prim.Native.Nat.{◌-◌}
 use mathlib.Core.Path.{refl, sym, ◌∙◌}
 use native.Mathlib.Omega.{arith}
 use Rattle.minimums.proofs.Zeros.{zero_later, not_zero, zero_end}

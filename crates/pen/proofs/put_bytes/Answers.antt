@@ -2,7 +2,6 @@
 use Rattle.pen.proofs.Writing.{byte_here, wrote_within, wrote_length, partly_none, partly_more, partly_all}
 use lib.ListN.{drop_of_length-le}
 use native.Mathlib.Omega.{arith}
-use Prim.Native.Nat.{◌-◌}
 use Rattle.pen.proofs.put_bytes.Goals as goal
 
 pub loop-i-init : goal.loop-i-init

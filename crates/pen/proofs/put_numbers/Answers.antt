@@ -2,8 +2,6 @@
 use Rattle.pen.proofs.Spacing.{spaced_here, spaced_end}
 use Rattle.pen.proofs.Writing.{wrote_within, wrote_length, partly_none, partly_more, partly_all}
 use native.Mathlib.Omega.{arith}
-use mathlib.Core.Bool.{false}
-use Prim.Native.Nat.{◌-◌}
 use Rattle.pen.proofs.put_numbers.Goals as goal
 
 pub loop-i-init : goal.loop-i-init

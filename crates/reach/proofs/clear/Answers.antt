@@ -1,5 +1,4 @@
 -- `clear` meets its contract. The loop's invariant: the first i places are 0, the others as they were.
-use Prim.Native.Nat.{◌-◌}
 use mathlib.Core.Path.{◌≡◌, refl, ◌∙◌}
 use mathlib.Core.List.{append-nil}
 use lib.ListN.{length, length-set}

@@ -1,7 +1,6 @@
 -- `mark_all` meets its contract: each marked node is noted or done with, and unmarked nodes twice and the nodes noted fall.
-use Prim.Native.Nat.{ℕ, ◌-◌}
+use Prim.Native.Nat.{◌-◌}
 use mathlib.Core.Path.{◌≡◌, refl, sym, ap, ◌∙◌, subst⁻¹}
-use mathlib.Core.List.{List}
 use native.Mathlib.Omega.{arith}
 use borrow.Author.Rules.{rules}
 use lib.ListN.{length, length-set, replicate}
@@ -10,9 +9,9 @@ use Rattle.table.specs.Table.{Table, table_of}
 use Rattle.arcs.specs.Residual.{list, Places}
 use Rattle.arcs.proofs.Members.{list_places}
 use Rattle.arcs.proofs.Work.{in_work_ends}
-use Rattle.reach.specs.Visits.{Front, front}
+use Rattle.reach.specs.Visits.{front}
 use Rattle.reach.proofs.Marking.{mark}
-use Rattle.reach.proofs.Visiting.{Visiting, Walkable, rows_walkable, rows_among, visit_start, next_node, visit_turn, visited_side}
+use Rattle.reach.proofs.Visiting.{Walkable, rows_walkable, rows_among, visit_start, next_node, visit_turn, visited_side}
 use Rattle.reach.proofs.mark_all.Goals as goal
 
 pub only-requires : goal.only-requires

@@ -1,5 +1,5 @@
 -- `mark_all` meets its contract. The loop's invariant: each marked node is noted or done with. The measure: unmarked nodes twice, and the nodes noted.
-use Prim.Native.Nat.{ℕ, ◌+◌, ◌-◌}
+use Prim.Native.Nat.{ℕ, ◌+◌}
 use mathlib.Core.Path.{◌≡◌}
 use lib.ListN.{length}
 use Rattle.table.specs.Table.{table_of}

@@ -1,5 +1,4 @@
 -- `visit` meets its contract. The loop's invariant: what was done so far is `look_to` over the first p places of the list, with as many more noted as are fewer unmarked.
-use Prim.Native.Nat.{◌-◌}
 use mathlib.Core.Path.{refl}
 use native.Mathlib.Nat.{le_antisymm}
 use native.Mathlib.Omega.{arith}

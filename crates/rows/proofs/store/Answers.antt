@@ -2,7 +2,6 @@
 use Rattle.rows.proofs.Storing.{store_starts, store_turn, store_done}
 use lib.ListN.{length-set}
 use mathlib.Core.Path.{refl, sym, ◌∙◌}
-use Prim.Native.Nat.{◌-◌}
 use borrow.Author.Rules.{rules}
 use Rattle.rows.proofs.store.Goals as goal
 

@@ -1,5 +1,4 @@
 -- `all_digits` meets its contract: the bytes are all digits exactly when the rest from `at` on is.
-use Prim.Native.Nat.{◌-◌}
 use mathlib.Core.Path.{refl, sym, ◌∙◌}
 use native.Mathlib.Omega.{arith}
 use Rattle.scan.proofs.Walk.{digits_low, digits_high, digits_more, digits_end}

@@ -1,5 +1,4 @@
 -- `begins_with` meets its contract: the bytes begin with these exactly when the rest from `at` on does.
-use Prim.Native.Nat.{◌-◌}
 use mathlib.Core.Path.{refl, sym, ◌∙◌}
 use native.Mathlib.Omega.{arith}
 use Rattle.scan.proofs.Walk.{begins_all, begins_short, begins_same, begins_differ}

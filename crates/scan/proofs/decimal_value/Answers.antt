@@ -1,5 +1,4 @@
 -- `decimal_value` meets its contract: the digits from `at` on, behind the value so far, say what all say; k digits stay below 10 to the k.
-use Prim.Native.Nat.{◌-◌}
 use mathlib.Core.Path.{refl, sym, ◌∙◌}
 use native.Mathlib.Omega.{arith}
 use Rattle.scan.proofs.Walk.{digits_first, decimal_more, decimal_end, power_more, power_fits}

@@ -1,5 +1,4 @@
 -- `field` meets its contract: the field behind `passed` of them stands from `start` to `stop`.
-use Prim.Native.Nat.{◌-◌}
 use mathlib.Core.Path.{refl, ap, ◌∙◌}
 use native.Mathlib.Nat.{le_antisymm}
 use native.Mathlib.Omega.{arith}

@@ -1,5 +1,5 @@
 -- `field_count` meets its contract: the walk stands behind as many fields as it counted.
-use Prim.Native.Nat.{◌+◌, ◌-◌, ◌<◌}
+use Prim.Native.Nat.{◌+◌, ◌<◌}
 use native.Mathlib.Omega.{arith}
 use Rattle.scan.proofs.Fielding.{Passed, passed_first, passed_all, passed_next}
 use Rattle.scan.proofs.field_count.Goals as goal

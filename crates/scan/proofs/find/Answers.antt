@@ -1,5 +1,4 @@
 -- `find` meets its contract: what stands before the separator from `from` on is what was passed and what stands before it from `at` on.
-use Prim.Native.Nat.{◌-◌}
 use mathlib.Core.Path.{refl, sym, ap, ◌∙◌}
 use mathlib.Core.Bool.{not}
 use native.Mathlib.Omega.{arith}

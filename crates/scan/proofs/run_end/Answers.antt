@@ -1,5 +1,4 @@
 -- `run_end` meets its contract: the bytes at the front from `from` on are those passed and those from `at` on.
-use Prim.Native.Nat.{◌-◌}
 use mathlib.Core.Path.{◌≡◌, refl, sym, ◌∙◌}
 use mathlib.Core.Bool.{true, false, not, beq}
 use native.Mathlib.Omega.{arith}

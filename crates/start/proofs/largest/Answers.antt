@@ -1,7 +1,5 @@
 -- `largest` meets its contract. The invariant: the greater of `most` and the largest of what is left is the largest of the row.
 use Rattle.start.proofs.Scaling.{largest_on, largest_end}
-use Prim.Native.Nat.{◌-◌}
-use mathlib.Core.Logic.{⊎_elim}
 use native.Mathlib.Omega.{arith}
 use borrow.Author.Rules.{rules}
 use Rattle.start.proofs.largest.Goals as goal

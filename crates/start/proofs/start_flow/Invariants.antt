@@ -5,7 +5,7 @@ use Rattle.rows.specs.Row.{by_place}
 use lib.ListN.{length, drop}
 use mathlib.Core.List.{[], ◌++◌}
 use mathlib.Core.Path.{◌≡◌}
-use Prim.Native.Nat.{◌≤◌, ◌-◌, ◌+◌}
+use Prim.Native.Nat.{◌≤◌, ◌-◌}
 use Rattle.start.proofs.start_flow.Given as goal
 
 abbrev pub invariant-loop-k : goal.invariant-loop-k

@@ -5,7 +5,7 @@ use Rattle.rows.specs.Row.{by_node}
 use lib.ListN.{length, drop}
 use mathlib.Core.List.{[], ◌++◌}
 use mathlib.Core.Path.{◌≡◌}
-use Prim.Native.Nat.{◌≤◌, ◌-◌, ◌+◌}
+use Prim.Native.Nat.{◌≤◌, ◌-◌}
 use Rattle.start.proofs.start_labels.Given as goal
 
 abbrev pub invariant-loop-i : goal.invariant-loop-i

@@ -3,8 +3,6 @@ use Rattle.start.proofs.Scaling.{sum_on, sum_past}
 use Rattle.rows.specs.Sum.{sum}
 use lib.ListN.{length}
 use mathlib.Core.Path.{◌≡◌, refl}
-use Prim.Native.Nat.{◌-◌}
-use mathlib.Core.Logic.{⊎_elim}
 use native.Mathlib.Omega.{arith}
 use borrow.Author.Rules.{rules}
 use Rattle.start.proofs.sum_at.Goals as goal

@@ -1,5 +1,4 @@
 -- `sum_at` meets its contract. The invariant: `sum` is the sum over the places below k.
-use Rattle.rows.specs.Sum.{sum}
 use Rattle.start.specs.Sums.{sum_at}
 use lib.ListN.{length}
 use mathlib.Core.Path.{◌≡◌}

@@ -2,7 +2,6 @@
 use Rattle.table.proofs.Faults.{fault_here, fault_later, fault_end}
 use mathlib.Core.Path.{refl, sym, ◌∙◌}
 use native.Mathlib.Omega.{arith}
-use Prim.Native.Nat.{◌-◌}
 use Rattle.table.proofs.first_fault.Goals as goal
 
 pub loop-place-init : goal.loop-place-init

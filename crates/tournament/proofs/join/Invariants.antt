@@ -3,7 +3,7 @@ use Rattle.tournament.proofs.Mending.{LeastFrom}
 use lib.ListN.{length}
 use Rattle.rows.specs.Row.{at_place}
 use mathlib.Core.Path.{◌≡◌}
-use Prim.Native.Nat.{ℕ, ◌≤◌, ◌+◌, ◌-◌}
+use Prim.Native.Nat.{ℕ, ◌≤◌, ◌+◌}
 use Rattle.tournament.proofs.join.Given as goal
 
 abbrev pub invariant-loop-p : goal.invariant-loop-p

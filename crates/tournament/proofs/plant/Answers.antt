@@ -3,7 +3,7 @@ use Rattle.tournament.proofs.Mending.{plant_on}
 use Rattle.tournament.specs.Tournament.{key}
 use lib.ListN.{length, length-set}
 use mathlib.Core.Path.{refl, sym, ◌∙◌}
-use Prim.Native.Nat.{◌+◌, ◌-◌}
+use Prim.Native.Nat.{◌+◌}
 use native.Mathlib.Omega.{arith}
 use Rattle.tournament.proofs.plant.Goals as goal
 

@@ -2,7 +2,7 @@
 use Rattle.tournament.proofs.Mending.{Mended}
 use lib.ListN.{length}
 use mathlib.Core.Path.{◌≡◌}
-use Prim.Native.Nat.{ℕ, ◌-◌, ◌*◌, ◌^◌, ◌≤◌, ◌<◌}
+use Prim.Native.Nat.{ℕ, ◌*◌, ◌^◌, ◌≤◌, ◌<◌}
 use Rattle.tournament.proofs.set_key.Given as goal
 
 abbrev pub invariant-loop-level : goal.invariant-loop-level
