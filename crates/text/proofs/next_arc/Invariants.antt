@@ -2,11 +2,11 @@
 use Prim.Native.Nat.{◌+◌, ◌-◌, ◌≤◌}
 use mathlib.Core.Path.{◌≡◌}
 use lib.ListN.{length}
-use Rattle.text.specs.Arcs.{arc_origins}
+use Rattle.text.specs.Arcs.{arcs_from}
 use Rattle.text.proofs.next_arc.Given as goal
 
 abbrev pub invariant-loop-at : goal.invariant-loop-at
-invariant-loop-at l = (l.from ≤ l.at) × (l.at ≤ length l.text + 1) × (arc_origins l.text l.from ≡ arc_origins l.text l.at)
+invariant-loop-at l = (l.from ≤ l.at) × (l.at ≤ length l.text + 1) × (arcs_from l.text l.from ≡ arcs_from l.text l.at)
 
 abbrev pub decreases-loop-at : goal.decreases-loop-at
 decreases-loop-at l = length l.text - l.at
