@@ -36,7 +36,7 @@ struct jorrabide_reading {
 /* Solves the table of n nodes, source s, sink t and four rows of arcs; a minimum is the least flow of its arc, 0 where there is none. The flow
    row needs as many numbers as there are arcs, the side row n marks, the work row 4n + 2m + 1 numbers. The value is what leaves the source less
    what enters it: minimums can force it below 0. With a minimum above 0 the scale, the phases and the counts are 0.
-   Needs about 170 KB of stack. */
+   Needs about 201 KB of stack. */
 struct jorrabide_answer jorrabide_solve(
     uint32_t n, uint32_t s, uint32_t t, uint32_t stamp,
     const uint32_t *tails, size_t tails_length,
@@ -63,7 +63,7 @@ struct jorrabide_reading jorrabide_read_place(
 /* Opens the arc at a place of the table to a new capacity, not below the old: goes on from the flow row, which must hold a maximum flow
    of the table, and fills flow and side row as for the new table. The stamp comes back raised by one, with 0 for the scale, the phases and the
    counts. The capacities are not written: put the new one in its place yourself, and give the table the new stamp. Rows as for solving; no minimum may be above 0.
-   Needs about 88 KB of stack. */
+   Needs about 85 KB of stack. */
 struct jorrabide_answer jorrabide_open(
     uint32_t n, uint32_t s, uint32_t t, uint32_t stamp,
     const uint32_t *tails, size_t tails_length,
@@ -107,7 +107,7 @@ struct jorrabide_written jorrabide_write_solution(
 /* Reads such a text back against its table, byte for byte, and fills the flow row's first places, one for each arc. SOLUTION (16) names the
    first line, from 1, that no solution text of the table has there: one past the last if lines are missing, the last if its LF is. A text
    above 1,048,576 bytes is LONG (15).
-   Needs about 21 KB of stack. */
+   Needs about 20 KB of stack. */
 struct jorrabide_read_back jorrabide_read_solution(
     uint32_t n, uint32_t s, uint32_t t,
     const uint32_t *tails, size_t tails_length,
@@ -128,7 +128,7 @@ struct jorrabide_checked {
    marks. `full` is 1 exactly where the sums can be shared among the arcs of each pair within capacity as a flow, the net out of the source is
    the `s` line, the source is marked 1 and the sink is not, and the marked cut has that capacity; then no flow of the table is larger. SOLUTION
    (16) names the first line, from 1, that is not of its form, or one past the last if there is no `s` line. It writes nothing.
-   Needs about 60 KB of stack. */
+   Needs about 58 KB of stack. */
 struct jorrabide_checked jorrabide_check_plan(
     uint32_t n, uint32_t s, uint32_t t,
     const uint32_t *tails, size_t tails_length,
@@ -147,7 +147,7 @@ struct jorrabide_listed {
 /* Solves the table and lists its chains from source to sink, and its rings: for each 1 for a chain or 2 for a ring, its amount, how many places
    it has, and these as walked. m (3 + n) numbers are always enough for the list; ROOM (5) where it is longer than its row, with nothing written.
    Minimums must be 0 (BOUNDED, 21). Other rows as for solving.
-   Needs about 84 KB of stack. */
+   Needs about 99 KB of stack. */
 struct jorrabide_listed jorrabide_list_chains(
     uint32_t n, uint32_t s, uint32_t t, uint32_t stamp,
     const uint32_t *tails, size_t tails_length,
@@ -177,7 +177,7 @@ struct jorrabide_room {
 /* Says whether the table has room for at least q: yes exactly where solving it would give a value of at least q, 0 included. The run stops as
    soon as q is reached, so a yes comes sooner than a solved table; no flow and no side come back. The minimums must all be 0, else the answer is
    BOUNDED (21). The work row needs 4n + 3m + 1 numbers here, which are 0 afterwards.
-   Needs about 23 KB of stack. */
+   Needs about 54 KB of stack. */
 struct jorrabide_room jorrabide_has_room_for(
     uint32_t n, uint32_t s, uint32_t t, uint32_t stamp,
     const uint32_t *tails, size_t tails_length,
@@ -206,7 +206,7 @@ struct jorrabide_part {
    places of the arcs that would help: raised by one unit, each by itself raises the value by one, and no other arc does. Where no place is
    listed, full arcs lie one behind the other, and two or more have to open together. A list that can't hold its numbers is ROOM (5), and
    nothing is written; n numbers are enough for each list of nodes, and as many as there are arcs for the places. Other rows as for solving.
-   Needs about 70 KB of stack. */
+   Needs about 101 KB of stack. */
 struct jorrabide_openings jorrabide_find_openings(
     uint32_t n, uint32_t s, uint32_t t, uint32_t stamp,
     const uint32_t *tails, size_t tails_length,
@@ -245,7 +245,7 @@ struct jorrabide_reduced {
    from 0) came from; solves it, and puts its flow back, 0 elsewhere: a maximum flow of the old table, whose side is marked in the side row.
    The minimums must all be 0. The rows of the smaller table and of its arcs' origins need as many numbers as there are arcs, that of its
    nodes' origins n. Other rows as for solving.
-   Needs about 131 KB of stack. */
+   Needs about 161 KB of stack. */
 struct jorrabide_reduced jorrabide_reduce(
     uint32_t n, uint32_t s, uint32_t t, uint32_t stamp,
     const uint32_t *tails, size_t tails_length,
@@ -277,7 +277,7 @@ struct jorrabide_month {
    day, the stamp, the value, the scale, the phases, the saturating pushes, nonsaturating pushes and relabels. For m arcs and k days the flow row needs
    m numbers, the side row 512 k marks, the answer row 9 k numbers; the work row 4n + 2m + 1 for the largest day, and a day that needs more is refused
    by itself (ROOM). A refused day leaves its flows and marks as they were.
-   Needs about 9 KB of stack. */
+   Needs about 41 KB of stack. */
 struct jorrabide_month jorrabide_solve_month(
     const uint32_t *starts, size_t starts_length,
     const uint32_t *nodes, size_t nodes_length,

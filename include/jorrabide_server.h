@@ -16,7 +16,7 @@ extern "C" {
 
 /* Solves the table of n nodes, source s, sink t and arcs. For m arcs the flow row needs 4m bytes, the side row n, the result row 56: seven
    numbers of 64 bits, which are the stamp, the value, the scale D, the phases K, and the saturating pushes, nonsaturating pushes and relabels.
-   Needs about 114 KB of stack. */
+   Needs about 145 KB of stack. */
 uint64_t jorrabide_server_solve(
     uint32_t n, uint32_t s, uint32_t t, uint32_t stamp,
     const uint8_t *arcs, size_t arcs_length,
@@ -27,7 +27,7 @@ uint64_t jorrabide_server_solve(
 /* Reads an answer, its stamp, flow row and side row, at a place of the table that has this stamp now. The result row needs 24 bytes: three
    numbers of 64 bits, which are the flow, the capacity, and 1 where the arc crosses the cut, else 0. The place of STALE (9) and AHEAD (11) is
    the number of rebuilds between the table and the answer.
-   Needs about 85 KB of stack. */
+   Needs about 83 KB of stack. */
 uint64_t jorrabide_server_place(
     uint32_t n, uint32_t s, uint32_t t, uint32_t stamp,
     const uint8_t *arcs, size_t arcs_length,
