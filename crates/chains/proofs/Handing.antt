@@ -31,13 +31,13 @@ module _ (answer : Answer) (n m : ℕ) (flows marks numbers flow side work list 
       ∙ sym (cond_true _ _ _ (lt-ltb (length list) (length numbers) (omega arith)))
 
   -- or is not.
-  pub short_enough : count ≤ length list → (flow_left side_left work_left List-left : List ℕ) (filled : ℕ)
+  pub short_enough : count ≤ length list → (flow_left side_left work_left list_left : List ℕ) (filled : ℕ)
       → flow_left ≡ take m flows ++ drop m flow → side_left ≡ take n marks ++ drop n side → work_left ≡ cleared (work_need n m) work
-      → filled ≡ length numbers → (filled ≤ length list → List-left ≡ numbers ++ drop filled list)
-      → shown (left answer flow_left side_left work_left) filled List-left ≡ handed_over answer n m flows marks numbers flow side work list
+      → filled ≡ length numbers → (filled ≤ length list → list_left ≡ numbers ++ drop filled list)
+      → shown (left answer flow_left side_left work_left) filled list_left ≡ handed_over answer n m flows marks numbers flow side work list
   unfolding handed_over
-  short_enough l flow_left side_left work_left List-left filled f g h c wrote =
-      let all : List-left ≡ numbers ++ drop (length numbers) list = wrote (omega arith) ∙ ap (λ i. numbers ++ drop i list) c in
+  short_enough l flow_left side_left work_left list_left filled f g h c wrote =
+      let all : list_left ≡ numbers ++ drop (length numbers) list = wrote (omega arith) ∙ ap (λ i. numbers ++ drop i list) c in
       rw (f, g, h, c, all) (sym (cond_false _ _ _ (le-ltb (length list) (length numbers) (omega arith))))
 
 module _ (t : Table) (ok : Accepted t) where

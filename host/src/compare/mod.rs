@@ -82,15 +82,14 @@ fn started(command: &[String]) -> Child {
         .unwrap_or_else(|error| panic!("{}: {error}", command[0]))
 }
 
-/// What the command prints for this standard input, or that it ended badly: its status is 0 if it answered, 1 if it
-/// refused. It may end before it has read all.
+/// What the command prints for this standard input, or that it ended badly. It may end before it has read all.
 fn printed(command: &[String], input: &[u8]) -> Vec<u8> {
     let mut child = started(command);
     let mut stdin = child.stdin.take().expect("its input is ours");
     let _ = stdin.write_all(input);
     drop(stdin);
     let output = child.wait_with_output().expect("its output is ours");
-    if output.status.code() != Some(i32::from(output.stdout.starts_with(b"refusal="))) {
+    if !output.status.success() {
         return format!("ended by {}", output.status).into_bytes();
     }
     output.stdout
