@@ -108,7 +108,7 @@ fn status(ending: Ending) -> u8 {
 
 // Writes the status to descriptor 3, where whoever started the program reads it; where nobody opened that, nothing is written.
 pub fn tell<R: Files>(rt: &R, ending: Ending) {
-    if let Ok(mut file) = OpenOptions::new().write(true).open(rt, "/dev/fd/3") {
+    if let Ok(mut file) = OpenOptions::new().append(true).open(rt, "/dev/fd/3") {
         let _ = file.write_all(&[status(ending)]);
     }
 }
