@@ -4,9 +4,8 @@ use mathlib.Core.Path.{◌≡◌, sym, ◌∙◌}
 use mathlib.Core.Bool.{Bool}
 use Rattle.table.specs.Table.{Table}
 use Rattle.table.specs.Refusals.{number_of}
-use Rattle.table.specs.Checks.{is_fine, sizes_of, arc_fault, check_of}
+use Rattle.table.specs.Checks.{Verdict, is_fine, sizes_of, arc_fault, check_of}
 use Rattle.table.specs.declared.Name.{Name}
-use Rattle.table.specs.declared.Verdict.{Verdict}
 
 -- The number of a name.
 pub number_unique : (name : Name) (a b : ℕ) → a ≡ number_of name → b ≡ number_of name → a ≡ b

@@ -1,33 +1,33 @@
--- `first_fault` meets its contract: the first fault of all arcs is the first fault of those from `place` on. The measure is what is left of the rows.
+-- `first_fault` meets its contract: the first fault of all arcs is the first fault of those from `place` on.
 use Rattle.table.proofs.Faults.{fault_here, fault_later, fault_end}
-use mathlib.Core.Path.{refl, sym, ◌∙◌}
+use mathlib.Core.Path.{refl, sym, subst, ◌∙◌}
 use native.Mathlib.Omega.{arith}
+use Rattle.table.specs.Table.{Table}
+use lib.ListN.{length}
+use Prim.Native.Nat.{◌≤◌, ◌<◌}
+use Rattle.table.proofs.Refusing.{handed_on}
 use Rattle.table.proofs.first_fault.Goals as goal
 
-pub loop-place-init : goal.loop-place-init
-loop-place-init c = (omega arith, refl)
-
-pub arc_fault-fault-requires : goal.arc_fault-fault-requires
-arc_fault-fault-requires c = tt
-
-pub is_fine-requires : goal.is_fine-requires
-is_fine-requires c = tt
-
-pub returns-then-not-is_fine : goal.returns-then-not-is_fine
-returns-then-not-is_fine c =
-    let a = c.args in
-    sym (c.loop-place.invariant.1 ∙ fault_here a.n c.loop-place.place a.tails.now a.heads.now a.capacities.now (omega arith) (omega arith) (omega arith)
-    c.arc_fault-fault.ensures (sym c.is_fine.ensures ∙ c.if-not-is_fine.true))
+pub returns-in_err-arc_fault : goal.returns-in_err-arc_fault
+returns-in_err-arc_fault c =
+    let t : Table = c.args.table.now in
+    let here : c.loop-place.place < length t.tails = subst (λ (u : Table). c.loop-place.place < length u.tails) c.table.view_is c.loop-place-test.true in
+    handed_on c.from_residual.result c.from_residual.ensures.1 (λ y is. is)
+    ∙ sym c.in_err-arc_fault.was
+    ∙ sym (c.loop-place.invariant
+    ∙ fault_here t.nodes c.loop-place.place t.tails t.heads t.capacities here (omega (arith, here, c.requires.1)) (omega (arith, here, c.requires.2))
+    {v = c.arc_fault.result} (rw (← c.table.view_is) c.arc_fault.ensures) (rw c.in_err-arc_fault.was refl))
 
 pub loop-place-preserved : goal.loop-place-preserved
 loop-place-preserved c =
-    let a = c.args in (
-      omega arith,
-      c.loop-place.invariant.1 ∙ fault_later a.n c.loop-place.place a.tails.now a.heads.now a.capacities.now (omega arith) (omega arith) (omega arith)
-          c.arc_fault-fault.ensures (sym c.is_fine.ensures ∙ c.if-not-is_fine.false),
-    )
+    let t : Table = c.args.table.now in
+    let here : c.loop-place.place < length t.tails = subst (λ (u : Table). c.loop-place.place < length u.tails) c.table.view_is c.loop-place-test.true in
+    c.loop-place.invariant
+    ∙ fault_later t.nodes c.loop-place.place t.tails t.heads t.capacities here (omega (arith, here, c.requires.1)) (omega (arith, here, c.requires.2))
+    {v = c.arc_fault.result} (rw (← c.table.view_is) c.arc_fault.ensures) (rw c.in_ok-arc_fault.was refl)
 
 pub returns : goal.returns
 returns c =
-    let a = c.args in
-    sym (c.loop-place.invariant.1 ∙ fault_end a.n c.loop-place.place a.tails.now _ _ c.loop-place-test.false)
+    let t : Table = c.args.table.now in
+    sym (c.loop-place.invariant
+    ∙ fault_end t.nodes c.loop-place.place t.tails _ _ (subst (λ (u : Table). length u.tails ≤ c.loop-place.place) c.table.view_is c.loop-place-test.false))
