@@ -1,4 +1,5 @@
 -- Laws of the checks of a table of four rows: its sizes, the first arc with a fault, and what a table that no check refuses has.
+use Rattle.std.specs.Prelude.{Ok, Err}
 use Prim.Native.Nat.{ℕ, zero, suc, ◌+◌, ◌<◌, ◌≤◌}
 use mathlib.Core.Path.{◌≡◌, refl, sym, ap, ap₂, subst₂, ◌∙◌}
 use mathlib.Core.Bool.{Bool, true, false, not, ◌||◌}
@@ -9,11 +10,9 @@ use lib.Dec.{ltb, eqb}
 use lib.ListN.{length}
 use Rattle.rows.specs.Row.{at_place}
 use Rattle.table.specs.Table.{Table, arcs}
-use Rattle.table.specs.declared.Verdict.{Verdict}
-use Rattle.table.specs.declared.Verdict.TheVariants.{Fine, Refused}
 use Rattle.table.specs.declared.Name.{Name}
 use Rattle.table.specs.declared.Name.TheVariants.{Nodes, Rows, Arcs, Ends, Room, Node, Loop, Capacity, Minimum}
-use Rattle.table.specs.Checks.{is_fine, refuse_if, outside, differ, bad_ends, or_else, in_order, sizes_of, arc_fault, first_fault, check_of}
+use Rattle.table.specs.Checks.{is_fine, refuse_if, outside, differ, bad_ends, or_else, in_order, sizes_of, arc_fault, first_fault, check_of, fine, refused, Verdict}
 use Rattle.table.proofs.Faults.{or_else_fine, passed, neither, in_order_sizes}
 use Rattle.table.proofs.Accepts.{sizes_fine, both_fine, check_accepts}
 use Rattle.minimums.specs.BoundedTable.{BoundedTable, AcceptedBounded}
@@ -36,32 +35,32 @@ module _ (n tails heads capacities minimums s t : ℕ) where
   pub sizes_three : capacities ≡ minimums → sizes_of n tails heads capacities s t ≡ bounded_sizes n tails heads capacities minimums s t
   unfolding bounded_sizes sizes_of differ_four
   sizes_three e =
-      ap (λ x. refuse_if (outside 2 512 n) Nodes 0 (refuse_if x Rows 0 (refuse_if (ltb 4096 tails) Arcs 0 (refuse_if (bad_ends n s t) Ends 0 Fine))))
+      ap (λ x. refuse_if (outside 2 512 n) Nodes 0 (refuse_if x Rows 0 (refuse_if (ltb 4096 tails) Arcs 0 (refuse_if (bad_ends n s t) Ends 0 fine))))
       (sym (ap (λ x. differ tails heads capacities || not x) (eq-eqb capacities minimums e) ∙ or_false (differ tails heads capacities)))
 
   -- Else NODES,
-  pub sizes_few_nodes : n < 2 → Refused Nodes 0 ≡ bounded_sizes n tails heads capacities minimums s t
+  pub sizes_few_nodes : n < 2 → refused Nodes 0 ≡ bounded_sizes n tails heads capacities minimums s t
   unfolding bounded_sizes outside
   sizes_few_nodes l = rw (lt-ltb n 2 l)
 
   -- too many of them too,
-  pub sizes_many_nodes : 2 ≤ n → 512 < n → Refused Nodes 0 ≡ bounded_sizes n tails heads capacities minimums s t
+  pub sizes_many_nodes : 2 ≤ n → 512 < n → refused Nodes 0 ≡ bounded_sizes n tails heads capacities minimums s t
   unfolding bounded_sizes outside
   sizes_many_nodes h l = rw (le-ltb n 2 h, lt-ltb 512 n l)
 
   -- and then ROWS.
-  pub sizes_rows : 2 ≤ n → n ≤ 512 → (capacities ≡ minimums → ⊥) → Refused Rows 0 ≡ bounded_sizes n tails heads capacities minimums s t
+  pub sizes_rows : 2 ≤ n → n ≤ 512 → (capacities ≡ minimums → ⊥) → refused Rows 0 ≡ bounded_sizes n tails heads capacities minimums s t
   unfolding bounded_sizes outside differ_four
   sizes_rows h l ne =
       rw (le-ltb n 2 h, le-ltb 512 n l)
-      (ap (λ x. refuse_if x Rows 0 (refuse_if (ltb 4096 tails) Arcs 0 (refuse_if (bad_ends n s t) Ends 0 Fine)))
+      (ap (λ x. refuse_if x Rows 0 (refuse_if (ltb 4096 tails) Arcs 0 (refuse_if (bad_ends n s t) Ends 0 fine)))
       (sym (ap (λ x. differ tails heads capacities || not x) (ne_eqb capacities minimums ne) ∙ or_true (differ tails heads capacities))))
 
   -- Sizes that are not refused are those of a table, with as many minimums as capacities.
   pub bounded_sizes_fine : is_fine (bounded_sizes n tails heads capacities minimums s t) ≡ true → capacities ≡ minimums
   unfolding bounded_sizes differ_four
   bounded_sizes_fine e =
-      let last : Verdict = refuse_if (ltb 4096 tails) Arcs 0 (refuse_if (bad_ends n s t) Ends 0 Fine) in
+      let last : Verdict = refuse_if (ltb 4096 tails) Arcs 0 (refuse_if (bad_ends n s t) Ends 0 fine) in
       let rest = (passed (outside 2 512 n) Nodes 0 (refuse_if (differ tails heads capacities || not (eqb capacities minimums)) Rows 0 last) e).1 in
       let rows = (passed (differ tails heads capacities || not (eqb capacities minimums)) Rows 0 last rest).0 in
       eqb-true capacities minimums (not-false _ (neither (differ tails heads capacities) (not (eqb capacities minimums)) rows).1)
@@ -70,13 +69,13 @@ module _ (n tails heads capacities minimums s t : ℕ) where
 
 -- At this place, if at all.
 data At (place : ℕ) : Verdict → Type 0 where
-  passes : At place Fine
-  there : (name : Name) → At place (Refused name place)
+  passes : At place fine
+  there : (name : Name) → At place (refused name place)
 
 -- At one of these places, if at all.
 data Within (from to : ℕ) : Verdict → Type 0 where
-  nowhere : Within from to Fine
-  between : (name : Name) (place : ℕ) → from ≤ place → place < to → Within from to (Refused name place)
+  nowhere : Within from to fine
+  between : (name : Name) (place : ℕ) → from ≤ place → place < to → Within from to (refused name place)
 
 -- A test refuses at its place.
 refuse_at : (b : Bool) (name : Name) (place : ℕ) (next : Verdict) → At place next → At place (refuse_if b name place next)
@@ -100,9 +99,9 @@ arc_at n place tail head capacity =
 -- and the first arc with a fault at one of their places.
 first_later : (place m : ℕ) (w v : Verdict) → At place w → Within (suc place) (suc place + m) v → Within place (place + suc m) (or_else w v)
 unfolding or_else
-first_later place m Fine v passes nowhere = nowhere
-first_later place m Fine v passes (between name q l h) = between name q (omega arith) (omega arith)
-first_later place m (Refused name _) v (there _) r = between name place (omega arith) (omega arith)
+first_later place m (Ok _) v passes nowhere = nowhere
+first_later place m (Ok _) v passes (between name q l h) = between name q (omega arith) (omega arith)
+first_later place m (Err why) v (there _) r = between why.name place (omega arith) (omega arith)
 
 first_within : (n place : ℕ) (ts hs cs : List ℕ) → Within place (place + length cs) (first_fault n place ts hs cs)
 unfolding first_fault
@@ -122,28 +121,28 @@ none_before cs ls v (first k at is l above lower) = absurd (omega arith)
 
 -- The end is beyond the first arc, where that has no fault.
 end_later : (place e m : ℕ) (v : Verdict) → Within (suc place) (suc place + m) v → e ≡ end_of v (place + suc m) → (e ≡ end_of v (suc place + m)) × (place < e)
-end_later place e m Fine nowhere is = (omega arith, omega arith)
-end_later place e m (Refused name q) (between _ _ l h) is = (is, omega arith)
+end_later place e m (Ok _) nowhere is = (omega arith, omega arith)
+end_later place e m (Err why) (between _ _ l h) is = (is, omega arith)
 
 -- One arc more in front: its own fault, its minimum, and the rest.
 one_more : (place e c l m : ℕ) (cs ls : List ℕ) (w v b : Verdict) → At place w → Within (suc place) (suc place + m) v
     → e ≡ end_of (or_else w v) (place + suc m) → {a : Verdict} → FirstAbove place e (c ∷ cs) (l ∷ ls) a
     → ((x : Verdict) → e ≡ end_of v (suc place + m) → FirstAbove (suc place) e cs ls x → or_else x v ≡ b)
-    → or_else a (or_else w v) ≡ or_else (or_else w (refuse_if (ltb c l) Minimum place Fine)) b
+    → or_else a (or_else w v) ≡ or_else (or_else w (refuse_if (ltb c l) Minimum place fine)) b
 unfolding or_else
-one_more place e c l m cs ls (Refused name _) v b (there _) r is (none each) rest = refl
-one_more place e c l m cs ls (Refused name _) v b (there _) r is (first k at so h above lower) rest = absurd (omega arith)
-one_more place e c l m cs ls Fine v b passes r is (none each) rest =
+one_more place e c l m cs ls (Err why) v b (there _) r is (none each) rest = refl
+one_more place e c l m cs ls (Err why) v b (there _) r is (first k at so h above lower) rest = absurd (omega arith)
+one_more place e c l m cs ls (Ok _) v b passes r is (none each) rest =
     let (end, on) = end_later place e m v r is in
     let here : l ≤ c = each 0 (omega arith) in
-    rw (le-ltb c l here) (rest Fine end (none (λ k h. each (suc k) (omega arith))))
-one_more place e c l m cs ls Fine v b passes r is (first zero at so h above lower) rest =
+    rw (le-ltb c l here) (rest fine end (none (λ k h. each (suc k) (omega arith))))
+one_more place e c l m cs ls (Ok _) v b passes r is (first zero at so h above lower) rest =
     let same : at ≡ place = omega arith in
-    rw (lt-ltb c l above) (ap (Refused Minimum) same)
-one_more place e c l m cs ls Fine v b passes r is (first (suc k) at so h above lower) rest =
+    rw (lt-ltb c l above) (ap (refused Minimum) same)
+one_more place e c l m cs ls (Ok _) v b passes r is (first (suc k) at so h above lower) rest =
     let (end, on) = end_later place e m v r is in
     let here : l ≤ c = lower 0 (omega arith) in
-    rw (le-ltb c l here) (rest (Refused Minimum at) end (first k at (omega arith) h above (λ j x. lower (suc j) (omega arith))))
+    rw (le-ltb c l here) (rest (refused Minimum at) end (first k at (omega arith) h above (λ j x. lower (suc j) (omega arith))))
 
 -- So it comes before what three rows refuse.
 faults_with : (n place e : ℕ) (ts hs cs ls : List ℕ) → length hs ≡ length ts → length cs ≡ length ts → length ls ≡ length ts
@@ -175,12 +174,12 @@ module _ (t : Table) (ls : List ℕ) where
   four = first_bounded_fault t.nodes 0 t.tails t.heads t.capacities ls
 
   -- By what the sizes say and whether there is room.
-  by_sizes : (v : Verdict) (room : Bool) → At 0 v → (v ≡ Fine → sizes ≡ Fine) → length ls ≡ arcs t
+  by_sizes : (v : Verdict) (room : Bool) → At 0 v → (v ≡ fine → sizes ≡ fine) → length ls ≡ arcs t
       → {a : Verdict} → FirstAbove 0 (end_of (in_order v room three) (arcs t)) t.capacities ls a → or_else a (in_order v room three) ≡ in_order v room four
   unfolding in_order or_else
-  by_sizes (Refused name _) room (there _) so many above = none_before t.capacities ls (Refused name 0) above
-  by_sizes Fine false passes so many above = none_before t.capacities ls (Refused Room 0) above
-  by_sizes Fine true passes so many above =
+  by_sizes (Err why) room (there _) so many above = none_before t.capacities ls (refused why.name 0) above
+  by_sizes (Ok _) false passes so many above = none_before t.capacities ls (refused Room 0) above
+  by_sizes (Ok _) true passes so many above =
       let lengths = sizes_fine t.nodes (length t.tails) (length t.heads) (length t.capacities) t.source t.sink (ap is_fine (so refl)) in
       let from : arcs t ≡ 0 + arcs t = omega arith in
       faults_with t.nodes 0 _ t.tails t.heads t.capacities ls lengths.heads_same lengths.capacities_same (many ∙ lengths.capacities_same)
@@ -202,32 +201,32 @@ module _ (t : Table) (ls : List ℕ) where
       ∙ check_with room (sym many ∙ ap length (sym caps)) (subst₂ (λ x y. FirstAbove 0 x y ls a) (e ∙ ap₂ end_of is (ap length (sym caps))) (sym caps) above)
 
   -- The arcs before what three rows refuse are few, and no more than there are.
-  ends_by : (v : Verdict) (room : Bool) → At 0 v → (v ≡ Fine → sizes ≡ Fine) → (end_of (in_order v room three) (arcs t) ≤ arcs t) × (end_of (in_order v room three) (arcs t) ≤ 4096)
+  ends_by : (v : Verdict) (room : Bool) → At 0 v → (v ≡ fine → sizes ≡ fine) → (end_of (in_order v room three) (arcs t) ≤ arcs t) × (end_of (in_order v room three) (arcs t) ≤ 4096)
   unfolding in_order or_else
-  ends_by (Refused name _) room (there _) so = (omega arith, omega arith)
-  ends_by Fine false passes so = (omega arith, omega arith)
-  ends_by Fine true passes so =
+  ends_by (Err why) room (there _) so = (omega arith, omega arith)
+  ends_by (Ok _) false passes so = (omega arith, omega arith)
+  ends_by (Ok _) true passes so =
       let lengths = sizes_fine t.nodes (length t.tails) (length t.heads) (length t.capacities) t.source t.sink (ap is_fine (so refl)) in
       let most : end_of three (arcs t) ≤ arcs t = inside three (first_within t.nodes 0 t.tails t.heads t.capacities) in
       (most, omega (arith, lengths.few, lengths.capacities_same))
     where
       inside : (v : Verdict) → Within 0 (0 + arcs t) v → end_of v (arcs t) ≤ arcs t
-      inside Fine nowhere = omega arith
-      inside (Refused name q) (between _ _ l h) = omega arith
+      inside (Ok _) nowhere = omega arith
+      inside (Err why) (between _ _ l h) = omega arith
 
   pub check_end : (room : Bool) → (end_of (check_of t room) (arcs t) ≤ arcs t) × (end_of (check_of t room) (arcs t) ≤ 4096)
   check_end room = ends_by sizes room (sizes_at _ _ _ _ _ _) (λ e. e)
 
   -- Not as many: NODES,
-  pub check_few_nodes : (room : Bool) → t.nodes < 2 → Refused Nodes 0 ≡ bounded_check (with_minimums t ls) room
+  pub check_few_nodes : (room : Bool) → t.nodes < 2 → refused Nodes 0 ≡ bounded_check (with_minimums t ls) room
   check_few_nodes room l = in_order_sizes (sizes_few_nodes t.nodes _ _ _ _ _ _ l) room four refl
 
   -- too many of them too,
-  pub check_many_nodes : (room : Bool) → 2 ≤ t.nodes → 512 < t.nodes → Refused Nodes 0 ≡ bounded_check (with_minimums t ls) room
+  pub check_many_nodes : (room : Bool) → 2 ≤ t.nodes → 512 < t.nodes → refused Nodes 0 ≡ bounded_check (with_minimums t ls) room
   check_many_nodes room h l = in_order_sizes (sizes_many_nodes t.nodes _ _ _ _ _ _ h l) room four refl
 
   -- and then ROWS.
-  pub check_rows : (room : Bool) → 2 ≤ t.nodes → t.nodes ≤ 512 → (arcs t ≡ length ls → ⊥) → Refused Rows 0 ≡ bounded_check (with_minimums t ls) room
+  pub check_rows : (room : Bool) → 2 ≤ t.nodes → t.nodes ≤ 512 → (arcs t ≡ length ls → ⊥) → refused Rows 0 ≡ bounded_check (with_minimums t ls) room
   check_rows room h l ne = in_order_sizes (sizes_rows t.nodes _ _ _ _ _ _ h l ne) room four refl
 
 -- ---- a table that no check refuses

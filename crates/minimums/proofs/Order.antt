@@ -1,8 +1,7 @@
 -- The order of verdicts, by what the code's tests say of the first.
 use mathlib.Core.Path.{◌≡◌, sym, ◌∙◌}
 use mathlib.Core.Bool.{true, false}
-use Rattle.table.specs.Checks.{is_fine, or_else}
-use Rattle.table.specs.declared.Verdict.{Verdict}
+use Rattle.table.specs.Checks.{is_fine, or_else, Verdict}
 use Rattle.table.proofs.Faults.{or_else_fine, or_else_refused}
 
 -- A verdict that refuses comes before the next.

@@ -2,16 +2,30 @@
 #![tactic(auto)]
 
 ghost use Rattle.std.specs.Prelude.{◌≡◌, Bool, ◌≤◌, length};
-ghost use Rattle.table.specs.Table.{Table};
+ghost use Rattle.table.specs.Table.{Table as AnyTable};
 ghost use Rattle.table.specs.Checks.{check_of};
-ghost use Rattle.minimums.specs.BoundedTable.{lent_bounded};
 ghost use Rattle.minimums.specs.Checks.{bounded_fault, with_minimums, bounded_check, all_zero, plain_check, end_of, FirstAbove};
 
-use table::{Name, Verdict};
+use std::marker::Model;
+use table::{Name, Refusal, Table};
+
+// A table with a row of minimums, the least flow of each arc, as it is lent.
+pub struct BoundedTable<'a> {
+    pub table: Table<'a>,
+    pub minimums: &'a [u32],
+}
+
+impl<'a> Model for BoundedTable<'a> {
+    ghost use Rattle.minimums.specs.BoundedTable.{BoundedTable};
+
+    ghost Value = { BoundedTable };
+
+    ghost view = { λ b. record { table = b.table; minimums = b.minimums.now } };
+}
 
 // A record of one arc: tail, head, capacity and least flow together.
 #[repr(C)]
-#[derive(Clone, Copy)]
+#[derive(Clone, Copy, Debug, PartialEq, Eq)]
 pub struct Arc {
     pub tail: u32,
     pub head: u32,
@@ -20,116 +34,87 @@ pub struct Arc {
 }
 
 // Are all numbers of a row 0?
+#[tactic(auto, unfolding(crate::specs::Checks::all_zero))]
 pub fn is_all_zero(row: &[u32]) -> bool
     ensures { result ≡ all_zero row.now }
 {
-    let mut k = 0;
-    while k < row.len() {
-        if row[k] != 0 {
-            return false;
-        }
-        k += 1;
-    }
-    true
+    row.iter().all(|x| *x == 0)
 }
 
 // The fault of one arc: NODE before LOOP before CAPACITY before MINIMUM, with its place.
-pub fn arc_fault(n: u32, place: u32, tail: u32, head: u32, capacity: u32, minimum: u32) -> Verdict
-    ensures { result ≡ bounded_fault n place tail head capacity minimum }
+pub fn arc_fault(n: u32, place: u32, arc: Arc) -> Result<(), Refusal>
+    ensures { result ≡ bounded_fault n place arc.tail arc.head arc.capacity arc.minimum }
 {
-    let fault = table::arc_fault(n, place, tail, head, capacity);
-    if !table::is_fine(fault) {
-        return fault;
+    table::arc_fault(n, place, arc.tail, arc.head, arc.capacity)?;
+    if arc.capacity < arc.minimum {
+        return Err(Name::Minimum.at(place));
     }
-    if capacity < minimum {
-        return Verdict::Refused(Name::Minimum, place);
-    }
-    Verdict::Fine
+    Ok(())
 }
 
-// Where the arcs end that stand before what a verdict refuses: all of m where it refuses nothing.
-fn end_of(found: Verdict, m: usize) -> usize
+// Where the arcs end that stand before what was refused: all of m where nothing was.
+fn end_of(found: Result<(), Refusal>, m: usize) -> usize
     ensures { result ≡ end_of found m }
 {
     match found {
-        Verdict::Refused(name, place) => place as usize,
-        Verdict::Fine => m,
+        Err(refusal) => refusal.place as usize,
+        Ok(()) => m,
     }
 }
 
 // The first minimum above its capacity at a place before `end`, or none.
-fn first_above(capacities: &[u32], minimums: &[u32], end: usize) -> Verdict
+fn first_above(capacities: &[u32], minimums: &[u32], end: usize) -> Result<(), Refusal>
     requires { (end ≤ length capacities.now) × (end ≤ length minimums.now) × (end ≤ 4096) }
     ensures { FirstAbove 0 end capacities.now minimums.now result }
 {
-    let mut place: usize = 0;
-    while place < end {
+    for place in 0..end {
         if capacities[place] < minimums[place] {
-            return Verdict::Refused(Name::Minimum, place as u32);
+            return Err(Name::Minimum.at(place as u32));
         }
-        place += 1;
     }
-    Verdict::Fine
+    Ok(())
 }
 
-// The verdict of a table of four rows, from that of its three: ROWS looks at all of them, and an arc's MINIMUM comes before what a later arc has.
-fn with_minimums(n: u32, found: Verdict, capacities: &[u32], minimums: &[u32]) -> Verdict
-    requires { (t : Table) × (room : Bool) × (t.nodes ≡ n) × (t.capacities ≡ capacities.now) × (found ≡ check_of t room) }
-    ensures { (t : Table) (room : Bool) → t.nodes ≡ n → t.capacities ≡ capacities.now → found ≡ check_of t room
+// What a table of four rows is refused for, from what its three are: ROWS looks at all of them, and an arc's MINIMUM comes before what a later arc has.
+fn with_minimums(
+    n: u32,
+    found: Result<(), Refusal>,
+    capacities: &[u32],
+    minimums: &[u32],
+) -> Result<(), Refusal>
+    requires { (t : AnyTable) × (room : Bool) × (t.nodes ≡ n) × (t.capacities ≡ capacities.now) × (found ≡ check_of t room) }
+    ensures { (t : AnyTable) (room : Bool) → t.nodes ≡ n → t.capacities ≡ capacities.now → found ≡ check_of t room
         → result ≡ bounded_check (with_minimums t minimums.now) room }
 {
     if capacities.len() != minimums.len() {
         if n < 2 {
-            return Verdict::Refused(Name::Nodes, 0);
+            return Err(Name::Nodes.at(0));
         }
         if 512 < n {
-            return Verdict::Refused(Name::Nodes, 0);
+            return Err(Name::Nodes.at(0));
         }
-        return Verdict::Refused(Name::Rows, 0);
+        return Err(Name::Rows.at(0));
     }
-    let above = first_above(capacities, minimums, end_of(found, capacities.len()));
-    if table::is_fine(above) {
-        return found;
-    }
-    above
+    first_above(capacities, minimums, end_of(found, capacities.len()))?;
+    found
 }
 
 // Checks a table of four rows, in order; `room` is whether the rows that its caller lends are long enough.
-pub fn check(
-    n: u32,
-    tails: &[u32],
-    heads: &[u32],
-    capacities: &[u32],
-    minimums: &[u32],
-    s: u32,
-    t: u32,
-    room: bool,
-) -> Verdict
-    ensures { result ≡ bounded_check (lent_bounded n s t tails heads capacities minimums) room }
+pub fn check(bounded: &BoundedTable, room: bool) -> Result<(), Refusal>
+    ensures { result ≡ bounded_check bounded.now room }
 {
-    let found = table::check(n, tails, heads, capacities, s, t, room);
-    with_minimums(n, found, capacities, minimums)
+    let table = &bounded.table;
+    let found = table::check(table, room);
+    with_minimums(table.nodes, found, table.capacities, bounded.minimums)
 }
 
 // The same of a call that takes no minimum above 0: BOUNDED right after the table's own checks.
-pub fn plain_check(
-    n: u32,
-    tails: &[u32],
-    heads: &[u32],
-    capacities: &[u32],
-    minimums: &[u32],
-    s: u32,
-    t: u32,
-    room: bool,
-) -> Verdict
-    ensures { result ≡ plain_check (lent_bounded n s t tails heads capacities minimums) room }
+pub fn plain_check(bounded: &BoundedTable, room: bool) -> Result<(), Refusal>
+    ensures { result ≡ plain_check bounded.now room }
 {
-    let found = check(n, tails, heads, capacities, minimums, s, t, room);
-    if !table::is_fine(found) {
-        return found;
+    check(bounded, room)?;
+    if !is_all_zero(bounded.minimums) {
+        return Err(Name::Bounded.at(0));
     }
-    if is_all_zero(minimums) {
-        return Verdict::Fine;
-    }
-    Verdict::Refused(Name::Bounded, 0)
+    Ok(())
 }
