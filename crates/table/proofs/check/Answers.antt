@@ -9,18 +9,18 @@ use Rattle.table.proofs.check.Goals as goal
 pub returns-in_err-sizes : goal.returns-in_err-sizes
 returns-in_err-sizes c =
     handed_on c.from_residual.result c.from_residual.ensures.1 (λ y is. is) ∙ sym c.in_err-sizes.was
-    ∙ in_order_sizes {found = c.sizes.result} (rw (← c.table.view_is) c.sizes.ensures) _ _ (rw c.in_err-sizes.was refl)
+    ∙ in_order_sizes {found = c.sizes.result} c.sizes.ensures _ _ (rw c.in_err-sizes.was refl)
 
 pub returns-then-not-room : goal.returns-then-not-room
 returns-then-not-room c =
     rw c.at.ensures
-    (in_order_room {found = c.sizes.result} (rw (← c.table.view_is) c.sizes.ensures) _ _ (rw c.in_ok-sizes.was refl) c.if-not-room.true)
+    (in_order_room {found = c.sizes.result} c.sizes.ensures _ _ (rw c.in_ok-sizes.was refl) c.if-not-room.true)
 
 pub first_fault-requires : goal.first_fault-requires
 first_fault-requires c =
     let h = sizes_fine _ _ _ _ _ _ (ap is_fine (sym c.sizes.ensures) ∙ rw c.in_ok-sizes.was refl) in
-    rw (← c.table.view_is) (h.few, h.heads_same, h.capacities_same)
+    (h.few, h.heads_same, h.capacities_same)
 
 pub returns : goal.returns
 returns c =
-    c.first_fault.ensures ∙ in_order_arcs {found = c.sizes.result} (rw (← c.table.view_is) c.sizes.ensures) _ _ (rw c.in_ok-sizes.was refl) c.if-not-room.false
+    c.first_fault.ensures ∙ in_order_arcs {found = c.sizes.result} c.sizes.ensures _ _ (rw c.in_ok-sizes.was refl) c.if-not-room.false
