@@ -2,9 +2,10 @@
 use Rattle.std.specs.Prelude.{ℕ, ◌≤◌, ◌<◌, ◌≡◌, List, map, length}
 use Rattle.rows.specs.Lent.{LentRow, GivenRow, before}
 use Rattle.rows.specs.Row.{Node, at_place}
-use Rattle.table.specs.Table.{Table, table_of}
+use Rattle.table.specs.Table.{Table, table_of, table_in}
 use Rattle.table.specs.Accepted.{ArcRows}
 use Rattle.minimums.specs.declared.Arc.{Arc}
+use Rattle.minimums.specs.declared.LentBounded.{LentBounded}
 
 -- A table with a fourth row: the least flow of each arc.
 pub record BoundedTable : Type 0 where
@@ -14,6 +15,10 @@ pub record BoundedTable : Type 0 where
 -- The bounded table of these numbers and rows.
 abbrev pub bounded_of : (n s t : ℕ) (tails heads capacities minimums : List ℕ) → BoundedTable
 bounded_of n s t tails heads capacities minimums = record { table = table_of n s t tails heads capacities; minimums = minimums }
+
+-- The bounded table that a lent one holds.
+abbrev pub bounded_in : LentBounded → BoundedTable
+bounded_in b = record { table = table_in b.table; minimums = b.minimums.now }
 
 -- The bounded table in four rows that a call is given.
 abbrev pub given_bounded : (n s t : ℕ) (tails heads capacities minimums : GivenRow) → BoundedTable

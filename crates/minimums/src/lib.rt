@@ -2,25 +2,19 @@
 #![tactic(auto)]
 
 ghost use Rattle.std.specs.Prelude.{◌≡◌, Bool, ◌≤◌, length};
-ghost use Rattle.table.specs.Table.{Table as AnyTable};
+ghost use Rattle.table.specs.Table.{Table};
 ghost use Rattle.table.specs.Checks.{check_of};
+ghost use Rattle.minimums.specs.BoundedTable.{bounded_in};
 ghost use Rattle.minimums.specs.Checks.{bounded_fault, with_minimums, bounded_check, all_zero, plain_check, end_of, FirstAbove};
 
 use std::marker::Model;
-use table::{Name, Refusal, Table};
+use table::{LentTable, Name, Refusal};
 
 // A table with a row of minimums, the least flow of each arc, as it is lent.
-pub struct BoundedTable<'a> {
-    pub table: Table<'a>,
+#[derive(Clone, Copy)]
+pub struct LentBounded<'a> {
+    pub table: LentTable<'a>,
     pub minimums: &'a [u32],
-}
-
-impl<'a> Model for BoundedTable<'a> {
-    ghost use Rattle.minimums.specs.BoundedTable.{BoundedTable};
-
-    ghost Value = { BoundedTable };
-
-    ghost view = { λ b. record { table = b.table; minimums = b.minimums.now } };
 }
 
 // A record of one arc: tail, head, capacity and least flow together.
@@ -82,8 +76,8 @@ fn with_minimums(
     capacities: &[u32],
     minimums: &[u32],
 ) -> Result<(), Refusal>
-    requires { (t : AnyTable) × (room : Bool) × (t.nodes ≡ n) × (t.capacities ≡ capacities.now) × (found ≡ check_of t room) }
-    ensures { (t : AnyTable) (room : Bool) → t.nodes ≡ n → t.capacities ≡ capacities.now → found ≡ check_of t room
+    requires { (t : Table) × (room : Bool) × (t.nodes ≡ n) × (t.capacities ≡ capacities.now) × (found ≡ check_of t room) }
+    ensures { (t : Table) (room : Bool) → t.nodes ≡ n → t.capacities ≡ capacities.now → found ≡ check_of t room
         → result ≡ bounded_check (with_minimums t minimums.now) room }
 {
     if capacities.len() != minimums.len() {
@@ -100,8 +94,8 @@ fn with_minimums(
 }
 
 // Checks a table of four rows, in order; `room` is whether the rows that its caller lends are long enough.
-pub fn check(bounded: &BoundedTable, room: bool) -> Result<(), Refusal>
-    ensures { result ≡ bounded_check bounded.now room }
+pub fn check(bounded: &LentBounded, room: bool) -> Result<(), Refusal>
+    ensures { result ≡ bounded_check (bounded_in bounded.now) room }
 {
     let table = &bounded.table;
     let found = table::check(table, room);
@@ -109,8 +103,8 @@ pub fn check(bounded: &BoundedTable, room: bool) -> Result<(), Refusal>
 }
 
 // The same of a call that takes no minimum above 0: BOUNDED right after the table's own checks.
-pub fn plain_check(bounded: &BoundedTable, room: bool) -> Result<(), Refusal>
-    ensures { result ≡ plain_check bounded.now room }
+pub fn plain_check(bounded: &LentBounded, room: bool) -> Result<(), Refusal>
+    ensures { result ≡ plain_check (bounded_in bounded.now) room }
 {
     check(bounded, room)?;
     if !is_all_zero(bounded.minimums) {

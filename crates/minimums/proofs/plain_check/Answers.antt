@@ -12,9 +12,9 @@ returns-in_err-check c =
 pub returns-then-not-is_all_zero : goal.returns-then-not-is_all_zero
 returns-then-not-is_all_zero c =
     gives_way {found = c.check.result} c.check.ensures (rw c.in_ok-check.was refl)
-    (rw (c.at.ensures, ← c.bounded.view_is, ← c.is_all_zero.ensures, c.if-not-is_all_zero.true) refl)
+    (rw (c.at.ensures, ← c.is_all_zero.ensures, c.if-not-is_all_zero.true) refl)
 
 pub returns : goal.returns
 returns c =
     gives_way {found = c.check.result} c.check.ensures (rw c.in_ok-check.was refl)
-    (rw (← c.bounded.view_is, ← c.is_all_zero.ensures, c.if-not-is_all_zero.false) refl)
+    (rw (← c.is_all_zero.ensures, c.if-not-is_all_zero.false) refl)
