@@ -1,4 +1,5 @@
 -- What an answer says of the full answer, and from the checks to an accepted table with room.
+use Rattle.std.specs.Prelude.{Ok, Err}
 use Prim.Native.Nat.{ℕ, ◌≤◌}
 use mathlib.Core.Path.{◌≡◌, refl, sym, ap, ◌∙◌, subst}
 use mathlib.Core.Bool.{Bool, true, false, cond}
@@ -7,10 +8,8 @@ use native.Mathlib.Omega.{arith}
 use borrow.Author.Tests.{leb-true}
 use lib.ListN.{length}
 use Rattle.table.specs.Table.{Table, arcs}
-use Rattle.table.specs.Checks.{is_fine}
+use Rattle.table.specs.Checks.{is_fine, fine, refused, Verdict}
 use Rattle.table.specs.Accepted.{Accepted}
-use Rattle.table.specs.declared.Verdict.{Verdict}
-use Rattle.table.specs.declared.Verdict.TheVariants.{Fine, Refused}
 use Rattle.table.proofs.Numbers.{number_positive}
 use Rattle.minimums.specs.BoundedTable.{BoundedTable}
 use Rattle.minimums.proofs.Accepting.{plain_accepts}
@@ -23,7 +22,7 @@ use Rattle.until.proofs.Stopping.{stopped_stops}
 use Rattle.asking.specs.Asking.{RoomLeft, room_left, room_need, has_work, refusal, answer_with, answer_of, asked, asking_as, asking_verdict, asking, Says}
 
 -- A table that passes is accepted, and the work row has room.
-pub fine_accepted : (b : BoundedTable) (work : ℕ) (v : Verdict) → v ≡ asking_verdict b work → v ≡ Fine
+pub fine_accepted : (b : BoundedTable) (work : ℕ) (v : Verdict) → v ≡ asking_verdict b work → v ≡ fine
     → Accepted b.table × (room_need b.table.nodes (arcs b.table) ≤ work)
 fine_accepted b work v found e =
     let (accepted, roomy) = plain_accepts b (has_work b.table.nodes (arcs b.table) work) (ap is_fine (sym found ∙ e)) in
@@ -87,10 +86,10 @@ unfolding asking asking_as asked
 asking_says b stamp q work l e none = go (asking_verdict b (length work)) refl
   where
     go : (v : Verdict) → asking_verdict b (length work) ≡ v → Says b.table q l.answer
-    go Fine fine =
+    go (Ok _) fine =
         let same : l ≡ asked b.table stamp q work = e ∙ ap (λ (v : Verdict). asking_as v b.table stamp q work) fine in
         subst (λ (x : RoomLeft). Says b.table q x.answer) (sym same)
         (answer_says b.table (fine_accepted b (length work) (asking_verdict b (length work)) refl fine).0 stamp q)
-    go (Refused name place) refused =
-        let same : l ≡ room_left (refusal name place) work = e ∙ ap (λ (v : Verdict). asking_as v b.table stamp q work) refused in
-        absurd (omega (arith, none, ap (λ (x : RoomLeft). x.answer.refusal) same, number_positive name))
+    go (Err why) refused =
+        let same : l ≡ room_left (refusal why.name why.place) work = e ∙ ap (λ (v : Verdict). asking_as v b.table stamp q work) refused in
+        absurd (omega (arith, none, ap (λ (x : RoomLeft). x.answer.refusal) same, number_positive why.name))

@@ -1,11 +1,9 @@
 -- Document 02, CR 7, "Is there room for at least this many?": what the question returns, and what the work row holds afterwards.
-use Rattle.std.specs.Prelude.{ℕ, ◌+◌, ◌*◌, ◌≤◌, ◌<◌, ◌≡◌, Bool, cond, List, leb, length}
+use Rattle.std.specs.Prelude.{ℕ, ◌+◌, ◌*◌, ◌≤◌, ◌<◌, ◌≡◌, Bool, cond, List, leb, length, Ok, Err}
 use Rattle.rows.specs.Row.{cleared}
 use Rattle.table.specs.Table.{Table, arcs}
 use Rattle.table.specs.Refusals.{refusal_in, place_in}
 use Rattle.table.specs.declared.Name.{Name}
-use Rattle.table.specs.declared.Verdict.{Verdict}
-use Rattle.table.specs.declared.Verdict.TheVariants.{Fine, Refused}
 use Rattle.minimums.specs.BoundedTable.{BoundedTable}
 use Rattle.minimums.specs.Checks.{plain_check}
 use Rattle.run.specs.Scale.{phase_count, scale}
@@ -15,6 +13,7 @@ use Rattle.run.specs.declared.Counts.{Counts}
 use Rattle.until.specs.Stepwise.{after_steps}
 use Rattle.until.specs.Stopping.{into_sink, reaches, stopped}
 use Rattle.asking.specs.declared.Room.{Room}
+use Rattle.table.specs.Checks.{fine, refused, Verdict}
 
 -- What the question returns, and what the work row lent to it holds afterwards.
 pub record RoomLeft : Type 0 where
@@ -37,8 +36,8 @@ has_work n m work = leb (room_need n m) work
 abbrev pub refusal : Name → ℕ → Room
 refusal name place =
     record {
-      refusal = refusal_in (Refused name place);
-      place = place_in (Refused name place);
+      refusal = refusal_in (refused name place);
+      place = place_in (refused name place);
       stamp = 0;
       yes = 0;
       value = 0;
@@ -53,8 +52,8 @@ refusal name place =
 unfoldable pub answer_with : (stamp : ℕ) (said : Bool) (worth scale phases : ℕ) → Counts → Room
 answer_with stamp said worth scale phases counts =
     record {
-      refusal = refusal_in Fine;
-      place = place_in Fine;
+      refusal = refusal_in fine;
+      place = place_in fine;
       stamp = stamp;
       yes = cond said 1 0;
       value = worth;
@@ -77,8 +76,8 @@ asked t stamp q work = room_left (answer_of t stamp q) (cleared (room_need t.nod
 
 -- A refusal leaves the work row unchanged.
 unfoldable pub asking_as : Verdict → Table → (stamp q : ℕ) → (work : List ℕ) → RoomLeft
-asking_as Fine t stamp q work = asked t stamp q work
-asking_as (Refused name place) t stamp q work = room_left (refusal name place) work
+asking_as (Ok _) t stamp q work = asked t stamp q work
+asking_as (Err why) t stamp q work = room_left (refusal why.name why.place) work
 
 -- The refusals are those of solving, with ROOM of a work row of this length, then BOUNDED. They do not depend on q.
 abbrev pub asking_verdict : BoundedTable → (work : ℕ) → Verdict

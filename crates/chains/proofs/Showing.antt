@@ -1,4 +1,5 @@
 -- From the checks to what listing promises, and what holds of a listed table.
+use Rattle.std.specs.Prelude.{Ok, Err}
 use Prim.Native.Nat.{ℕ, ◌+◌, ◌*◌, ◌≤◌}
 use native.Mathlib.Omega.{arith}
 use mathlib.Core.Path.{◌≡◌, refl, ap, sym, subst, ◌∙◌}
@@ -10,11 +11,9 @@ use lib.ListN.{length, drop}
 use lib.Seq.{take_at}
 use Rattle.table.specs.Table.{Table, arcs}
 use Rattle.table.specs.Accepted.{Accepted}
-use Rattle.table.specs.Checks.{is_fine, refuse_if, or_else}
+use Rattle.table.specs.Checks.{is_fine, refuse_if, or_else, fine, refused, Verdict}
 use Rattle.table.specs.declared.Name.{Name}
 use Rattle.table.specs.declared.Name.TheVariants.{Room}
-use Rattle.table.specs.declared.Verdict.{Verdict}
-use Rattle.table.specs.declared.Verdict.TheVariants.{Fine, Refused}
 use Rattle.table.proofs.Numbers.{number_positive}
 use Rattle.minimums.specs.BoundedTable.{BoundedTable}
 use Rattle.minimums.proofs.Accepting.{plain_fine, plain_accepts}
@@ -27,29 +26,29 @@ use Rattle.verdicts.specs.Plain.{plain_verdict}
 
 module _ (b : BoundedTable) (stamp : ℕ) (flow side work list : List ℕ) (v : Verdict) (found : v ≡ plain_verdict b (length flow) (length side) (length work)) where
   -- Where the first checks refuse, listing gives that refusal and leaves the rows.
-  pub refused_listing : (name : Name) (place : ℕ) → v ≡ Refused name place → (r : Answer) → r ≡ refusal name place
+  pub refused_listing : (name : Name) (place : ℕ) → v ≡ refused name place → (r : Answer) → r ≡ refusal name place
       → shown (left r flow side work) 0 list ≡ listing b stamp flow side work list
   unfolding listing listing_verdict listing_as or_else
   refused_listing name place e r f = rw (← found, e) (ap (λ (a : Answer). shown (left a flow side work) 0 list) f)
 
   -- Where they do not, the list's ROOM decides;
-  pub fine_listing : v ≡ Fine → (l : Shown) → l ≡ listing_checked b.table stamp flow side work list
+  pub fine_listing : v ≡ fine → (l : Shown) → l ≡ listing_checked b.table stamp flow side work list
       → l ≡ listing b stamp flow side work list
   unfolding listing listing_verdict or_else
   fine_listing e l f = rw (← found, e) f
 
   -- the table is accepted,
-  pub fine_accepted : v ≡ Fine → Accepted b.table
+  pub fine_accepted : v ≡ fine → Accepted b.table
   fine_accepted e = (plain_accepts b _ (ap is_fine (sym found ∙ e))).0
 
   -- and solving's rows have room.
-  pub fine_roomy : v ≡ Fine → Roomy b.table.nodes (arcs b.table) (length flow) (length side) (length work)
+  pub fine_roomy : v ≡ fine → Roomy b.table.nodes (arcs b.table) (length flow) (length side) (length work)
   fine_roomy e = room_roomy _ _ _ _ _ (plain_accepts b _ (ap is_fine (sym found ∙ e))).1
 
 -- ---- what holds of a listed table
 
 -- Demands 2 and 3, and document 02's promises of the list.
-listed_shows : (t : Table) (stamp : ℕ) (flow side work list : List ℕ) → Accepted t → Shows t (listing_as Fine t stamp flow side work list)
+listed_shows : (t : Table) (stamp : ℕ) (flow side work list : List ℕ) → Accepted t → Shows t (listing_as fine t stamp flow side work list)
 unfolding listing_as solved answer_with
 listed_shows t stamp flow side work list ok =
     let flow_is = solved_flows t ok flow in
@@ -62,18 +61,18 @@ listed_shows t stamp flow side work list ok =
 
 module _ (b : BoundedTable) (stamp : ℕ) (flow side work list : List ℕ) (l : Shown) (same : l ≡ listing b stamp flow side work list) (none : l.solving.answer.refusal ≡ 0) where
   -- What refuses nothing has passed the checks, and the table is listed.
-  passed : (plain_verdict b (length flow) (length side) (length work) ≡ Fine) × (l ≡ listing_as Fine b.table stamp flow side work list)
+  passed : (plain_verdict b (length flow) (length side) (length work) ≡ fine) × (l ≡ listing_as fine b.table stamp flow side work list)
   unfolding listing listing_verdict listing_as or_else
   passed =
       let (fine, e) = go (plain_verdict b (length flow) (length side) (length work)) (ltb (length list) (length (run_list b.table))) (sym (ap (λ (x : Shown). x.solving.answer.refusal) same) ∙ none) in
       (fine, same ∙ e)
     where
       go : (v : Verdict) (long : Bool)
-          → (listing_as (or_else v (cond long (Refused Room 0) Fine)) b.table stamp flow side work list).solving.answer.refusal ≡ 0
-          → (v ≡ Fine) × (listing_as (or_else v (cond long (Refused Room 0) Fine)) b.table stamp flow side work list ≡ listing_as Fine b.table stamp flow side work list)
-      go (Refused name place) long zero_number = absurd (number_positive name zero_number)
-      go Fine true zero_number = absurd (number_positive Room zero_number)
-      go Fine false zero_number = (refl, refl)
+          → (listing_as (or_else v (cond long (refused Room 0) fine)) b.table stamp flow side work list).solving.answer.refusal ≡ 0
+          → (v ≡ fine) × (listing_as (or_else v (cond long (refused Room 0) fine)) b.table stamp flow side work list ≡ listing_as fine b.table stamp flow side work list)
+      go (Err why) long zero_number = absurd (number_positive why.name zero_number)
+      go (Ok _) true zero_number = absurd (number_positive Room zero_number)
+      go (Ok _) false zero_number = (refl, refl)
 
   -- It shows who sits where,
   pub listing_shows : Shows b.table l
@@ -85,10 +84,10 @@ module _ (b : BoundedTable) (stamp : ℕ) (flow side work list : List ℕ) (l : 
   pub listing_solves : l.solving ≡ solving b.table stamp flow side work
   unfolding listing_as
   listing_solves =
-      fine_solving b.table stamp flow side work Fine (sym (plain_fine b _ (ap is_fine passed.0))) refl _
+      fine_solving b.table stamp flow side work fine (sym (plain_fine b _ (ap is_fine passed.0))) refl _
       (ap (λ (x : Shown). x.solving) passed.1)
 
 -- A row of m (3 + n) numbers has room for every list.
-pub room_enough : (t : Table) → Accepted t → (list : ℕ) → arcs t * (3 + t.nodes) ≤ list → room_verdict t list ≡ Fine
+pub room_enough : (t : Table) → Accepted t → (list : ℕ) → arcs t * (3 + t.nodes) ≤ list → room_verdict t list ≡ fine
 room_enough t ok list room =
-    ap (λ (b : Bool). refuse_if b Room 0 Fine) (le-ltb list (length (run_list t)) (omega (arith, run_short t ok)))
+    ap (λ (b : Bool). refuse_if b Room 0 fine) (le-ltb list (length (run_list t)) (omega (arith, run_short t ok)))

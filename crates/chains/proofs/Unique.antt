@@ -1,15 +1,15 @@
 -- What the promise leaves open: nothing.
+use Rattle.std.specs.Prelude.{Ok, Err}
 use Prim.Native.Nat.{ℕ}
 use mathlib.Core.Path.{◌≡◌, refl, ap, sym, ◌∙◌}
 use mathlib.Core.List.{List}
 use lib.ListN.{length}
 use Rattle.table.specs.Table.{Table}
-use Rattle.table.specs.declared.Verdict.{Verdict}
-use Rattle.table.specs.declared.Verdict.TheVariants.{Fine, Refused}
 use Rattle.minimums.specs.BoundedTable.{BoundedTable}
 use Rattle.solver.specs.declared.Answer.{Answer}
 use Rattle.solver.specs.Solving.{solved}
 use Rattle.chains.specs.Listing.{Shown, listing_verdict, listing_as, listing}
+use Rattle.table.specs.Checks.{Verdict}
 
 -- Two results that meet the promise are equal, the lent rows too.
 pub list_unique : (b : BoundedTable) (stamp : ℕ) (flow side work list : List ℕ) (l r : Shown)
@@ -24,8 +24,8 @@ returned s = (s.solving.answer, s.filled)
 by_verdict : (v : Verdict) (t : Table) (stamp : ℕ) (flow side work list flow_too side_too work_too list_too : List ℕ)
     → returned (listing_as v t stamp flow side work list) ≡ returned (listing_as v t stamp flow_too side_too work_too list_too)
 unfolding listing_as solved
-by_verdict Fine t stamp flow side work list flow_too side_too work_too list_too = refl
-by_verdict (Refused name place) t stamp flow side work list flow_too side_too work_too list_too = refl
+by_verdict (Ok _) t stamp flow side work list flow_too side_too work_too list_too = refl
+by_verdict (Err why) t stamp flow side work list flow_too side_too work_too list_too = refl
 
 -- so what stood in the lent rows before does not matter to it: only their lengths do.
 pub old_rows_idle : (b : BoundedTable) (stamp : ℕ) (flow side work list flow_too side_too work_too list_too : List ℕ)

@@ -1,12 +1,10 @@
 -- Document 02, CR 3: show who sits where. What listing the chains and rings of a table answers, and what the lent rows hold afterwards.
-use Rattle.std.specs.Prelude.{ℕ, ◌≤◌, ◌≡◌, cond, List, ◌++◌, ltb, length, take, drop}
+use Rattle.std.specs.Prelude.{ℕ, ◌≤◌, ◌≡◌, cond, List, ◌++◌, ltb, length, take, drop, Ok, Err}
 use Rattle.rows.specs.Lent.{LentRow}
 use Rattle.rows.specs.Row.{cleared}
 use Rattle.table.specs.Table.{Table, arcs, network_of}
-use Rattle.table.specs.Checks.{refuse_if, or_else}
+use Rattle.table.specs.Checks.{refuse_if, or_else, fine, Verdict}
 use Rattle.table.specs.declared.Name.TheVariants.{Room}
-use Rattle.table.specs.declared.Verdict.{Verdict}
-use Rattle.table.specs.declared.Verdict.TheVariants.{Fine, Refused}
 use Rattle.arcs.specs.Work.{work_need}
 use Rattle.run.specs.Phase.{run}
 use Rattle.minimums.specs.BoundedTable.{BoundedTable}
@@ -37,7 +35,7 @@ run_list t = numbers (chains_of t (run t).state.flow)
 
 -- ROOM, exactly when this list is longer than its row.
 abbrev pub room_verdict : Table → (list : ℕ) → Verdict
-room_verdict t list = refuse_if (ltb list (length (run_list t))) Room 0 Fine
+room_verdict t list = refuse_if (ltb list (length (run_list t))) Room 0 fine
 
 -- The order: the refusals as for solving, BOUNDED, and last the list's ROOM.
 unfoldable pub listing_verdict : BoundedTable → (flow side work list : ℕ) → Verdict
@@ -45,9 +43,9 @@ listing_verdict b flow side work list = or_else (plain_verdict b flow side work)
 
 -- A listed table: solving's rows as solving leaves them, and the list in the first places of its row, later places as they were. A refusal leaves every lent row unchanged.
 unfoldable pub listing_as : Verdict → Table → (stamp : ℕ) → (flow side work list : List ℕ) → Shown
-listing_as Fine t stamp flow side work list =
+listing_as (Ok _) t stamp flow side work list =
     shown (solved t stamp flow side work) (length (run_list t)) (run_list t ++ drop (length (run_list t)) list)
-listing_as (Refused name place) t stamp flow side work list = shown (left (refusal name place) flow side work) 0 list
+listing_as (Err why) t stamp flow side work list = shown (left (refusal why.name why.place) flow side work) 0 list
 
 -- Listing a table that the checks do not refuse: the list's ROOM decides.
 abbrev pub listing_checked : Table → (stamp : ℕ) → (flow side work list : List ℕ) → Shown

@@ -1,4 +1,5 @@
 -- Solving takes each table that passes the checks, in the rows that the desk lends: it is solved, or no flow keeps all arcs between their numbers.
+use Rattle.std.specs.Prelude.{Ok, Err}
 use Prim.Native.Nat.{ℕ, ◌≤◌}
 use mathlib.Core.Path.{◌≡◌, refl, sym, ap, subst, ◌∙◌}
 use mathlib.Core.Bool.{Bool, true, false, cond}
@@ -9,10 +10,8 @@ use lib.ListN.{length, length-replicate, replicate}
 use borrow.Author.Tests.{le-leb, eqb-true, eqb-false}
 use Rattle.rows.proofs.Sums.{by_test}
 use Rattle.table.specs.declared.Name.TheVariants.{Impossible as ImpossibleName}
-use Rattle.table.specs.declared.Verdict.{Verdict}
-use Rattle.table.specs.declared.Verdict.TheVariants.{Fine, Refused}
 use Rattle.table.specs.Table.{arcs}
-use Rattle.table.specs.Checks.{is_fine}
+use Rattle.table.specs.Checks.{is_fine, fine, refused, Verdict}
 use Rattle.minimums.specs.BoundedTable.{BoundedTable, AcceptedBounded}
 use Rattle.minimums.specs.Checks.{plain}
 use Rattle.minimums.proofs.Accepting.{plain_check_lem}
@@ -28,9 +27,9 @@ use Rattle.counter.specs.Desk.{zeros, left_text, text_by, Printed, Passes}
 use Rattle.counter.specs.Desk.{solved as of_solved, impossible as of_none}
 
 -- The one verdict that is fine.
-fine_is : (v : Verdict) → is_fine v ≡ true → v ≡ Fine
-fine_is Fine e = refl
-fine_is (Refused name place) e = cc
+fine_is : (v : Verdict) → is_fine v ≡ true → v ≡ fine
+fine_is (Ok _) e = refl
+fine_is (Err why) e = cc
 
 module _ (b : BoundedTable) (ok : Passes b) where
   -- It is accepted,
@@ -55,15 +54,15 @@ module _ (b : BoundedTable) (ok : Passes b) where
         (le-leb (work_need b.table.nodes (arcs b.table)) (length work) (omega (arith, few_arcs, few_nodes)))
 
     -- so no check refuses it,
-    passes : bounded_verdict b (length flow) (length side) (length work) ≡ Fine
+    passes : bounded_verdict b (length flow) (length side) (length work) ≡ fine
     passes = fine_is (bounded_verdict b (length flow) (length side) (length work)) (rw room ok)
 
     -- and where all minimums are 0 it is solved.
     pub is_solved : plain b ≡ true → solving b.table 0 flow side work ≡ solved b.table 0 flow side work
     is_solved all =
-        let fine : Fine ≡ solving_verdict b.table (length flow) (length side) (length work)
+        let fine : fine ≡ solving_verdict b.table (length flow) (length side) (length work)
         = sym (sym (plain_check_lem b (has_room b.table.nodes (arcs b.table) (length flow) (length side) (length work)) all) ∙ passes) in
-        sym (fine_solving b.table 0 flow side work Fine fine refl (solved b.table 0 flow side work) refl)
+        sym (fine_solving b.table 0 flow side work fine fine refl (solved b.table 0 flow side work) refl)
 
     -- What was solved refuses nothing.
     solved_fine : (solved b.table 0 flow side work).answer.refusal ≡ 0

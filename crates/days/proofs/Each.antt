@@ -9,8 +9,6 @@ use lib.Seq.{get_or-take, get_or-drop}
 use Rattle.rows.specs.Row.{at_place, part}
 use Rattle.table.specs.Table.{Table}
 use Rattle.table.specs.declared.Name.{Name}
-use Rattle.table.specs.declared.Verdict.{Verdict}
-use Rattle.table.specs.declared.Verdict.TheVariants.{Fine, Refused}
 use Rattle.table.proofs.Numbers.{number_positive}
 use Rattle.solver.specs.declared.Answer.{Answer}
 use Rattle.solver.specs.Solving.{Left, left, Meets}
@@ -24,6 +22,7 @@ use Rattle.days.proofs.Solvings.{plain_meets}
 use Rattle.days.proofs.Starting.{fine_ready}
 use Rattle.tally.proofs.Summing.{summed_same}
 use Rattle.days.proofs.Course.{held_at, alone, After, after_days}
+use Rattle.table.specs.Checks.{fine, refused, Verdict}
 
 -- ---- nine numbers read back
 
@@ -92,18 +91,18 @@ Promised d flow side work answers l =
 
 module _ (d : Days) (flow side work answers : List ℕ) (v : Verdict) (found : v ≡ month_verdict d (length flow) (length side) (length answers)) where
   -- Where the checks refuse, the month is that refusal, and the rows stay.
-  pub refused_promise : (name : Name) (place : ℕ) → v ≡ Refused name place → (r : Month) → r ≡ month_refusal name place
+  pub refused_promise : (name : Name) (place : ℕ) → v ≡ refused name place → (r : Month) → r ≡ month_refusal name place
       → Promised d flow side work answers (month_left r flow side work answers)
   unfolding month month_as
   refused_promise name place e r f =
       (rw (← found, e) (ap (λ (m : Month). month_left m flow side work answers) f), λ none. absurd (number_positive name (sym (ap (λ (m : Month). m.refusal) f) ∙ none)))
 
   -- Where they do not, the month is ready,
-  pub fine_is_ready : v ≡ Fine → Ready d (length flow) (length side) (length answers)
+  pub fine_is_ready : v ≡ fine → Ready d (length flow) (length side) (length answers)
   fine_is_ready e = fine_ready d (length flow) (length side) (length answers) (sym found ∙ e)
 
   -- and the sums and rows after the last day are its promise.
-  pub fine_promise : v ≡ Fine → (h : Held) → h ≡ first_days d (tables d) (held no_tally flow side work answers) → (r : Month) → r ≡ month_sums h.tally
+  pub fine_promise : v ≡ fine → (h : Held) → h ≡ first_days d (tables d) (held no_tally flow side work answers) → (r : Month) → r ≡ month_sums h.tally
       → Promised d flow side work answers (month_left r h.flow h.side h.work h.answers)
   unfolding month month_as
   fine_promise e h same r f = (

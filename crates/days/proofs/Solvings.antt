@@ -1,4 +1,5 @@
 -- Facts of solving a day that a month rests on: the value is small, no row's length changes, and what stood in the work row does not matter.
+use Rattle.std.specs.Prelude.{Ok, Err}
 use Prim.Native.Nat.{ℕ, ◌≤◌}
 use mathlib.Core.Path.{◌≡◌, refl, sym, ap, ◌∙◌, subst}
 use mathlib.Core.Bool.{true, false, cond}
@@ -10,13 +11,11 @@ use lib.ListN.{length, drop, length-append, length-drop, length-replicate, repli
 use Rattle.rows.specs.Row.{at_place, cleared}
 use Rattle.rows.proofs.Sums.{both_true}
 use Rattle.table.specs.Table.{Table, arcs, network_of}
-use Rattle.table.specs.Checks.{is_fine, or_else}
+use Rattle.table.specs.Checks.{is_fine, or_else, fine, refused, Verdict}
 use Rattle.table.specs.Refusals.{number_of}
 use Rattle.table.specs.Accepted.{Accepted}
 use Rattle.table.specs.declared.Name.{Name}
 use Rattle.table.specs.declared.Name.TheVariants.{Bounded}
-use Rattle.table.specs.declared.Verdict.{Verdict}
-use Rattle.table.specs.declared.Verdict.TheVariants.{Fine, Refused}
 use Rattle.table.proofs.Numbers.{number_positive}
 use Rattle.reach.specs.Side.{side_of}
 use Rattle.reach.proofs.Side.{length_of_side}
@@ -52,21 +51,21 @@ module _ (b : BoundedTable) (stamp : ℕ) (flow side work : List ℕ) where
   verdict = plain_verdict b (length flow) (length side) (length work)
 
   -- Where it refuses nothing the table is accepted,
-  pub plain_accepted : verdict ≡ Fine → Accepted t
+  pub plain_accepted : verdict ≡ fine → Accepted t
   plain_accepted e = (plain_accepts b _ (ap is_fine e)).0
 
   -- and the rows have room.
-  pub plain_roomy : verdict ≡ Fine → Roomy t.nodes (arcs t) (length flow) (length side) (length work)
+  pub plain_roomy : verdict ≡ fine → Roomy t.nodes (arcs t) (length flow) (length side) (length work)
   plain_roomy e = room_roomy _ _ _ _ _ (plain_accepts b _ (ap is_fine e)).1
 
   -- Where it refuses, that is the answer, and every row stays.
-  pub refused_plain : (name : Name) (place : ℕ) → verdict ≡ Refused name place → {r : Answer} → r ≡ refusal name place
+  pub refused_plain : (name : Name) (place : ℕ) → verdict ≡ refused name place → {r : Answer} → r ≡ refusal name place
       → left r flow side work ≡ plain_solving b stamp flow side work
   unfolding plain_solving solving_as
   refused_plain name place e f = rw e (ap (λ (a : Answer). left a flow side work) f)
 
   -- Where it does not, what is left is the solved table's.
-  pub fine_plain : verdict ≡ Fine → {l : Left} → l ≡ solved t stamp flow side work → l ≡ plain_solving b stamp flow side work
+  pub fine_plain : verdict ≡ fine → {l : Left} → l ≡ solved t stamp flow side work → l ≡ plain_solving b stamp flow side work
   unfolding plain_solving solving_as
   fine_plain e f = rw e f
 
@@ -76,8 +75,8 @@ module _ (b : BoundedTable) (stamp : ℕ) (flow side work : List ℕ) where
   plain_value = go (verdict) refl
     where
       go : (v : Verdict) → v ≡ verdict → (solving_as v t stamp flow side work).answer.value ≤ 4096000000
-      go Fine e = run_value t (plain_accepted (sym e))
-      go (Refused name place) e = omega arith
+      go (Ok _) e = run_value t (plain_accepted (sym e))
+      go (Err why) e = omega arith
 
   -- Each row stays as long as it was.
   pub plain_long : Long flow side work (plain_solving b stamp flow side work)
@@ -95,8 +94,8 @@ module _ (b : BoundedTable) (stamp : ℕ) (flow side work : List ℕ) where
           }
 
       go : (v : Verdict) → v ≡ verdict → Long flow side work (solving_as v t stamp flow side work)
-      go Fine e = solved_long (plain_accepted (sym e)) (plain_roomy (sym e))
-      go (Refused name place) e = record { flow_long = refl; side_long = refl; work_long = refl }
+      go (Ok _) e = solved_long (plain_accepted (sym e)) (plain_roomy (sym e))
+      go (Err why) e = record { flow_long = refl; side_long = refl; work_long = refl }
 
   -- What a solved table needs of the work row; 0 of a refused one.
   abbrev pub need : ℕ
@@ -109,8 +108,8 @@ module _ (b : BoundedTable) (stamp : ℕ) (flow side work : List ℕ) where
     where
       go : (v : Verdict) → v ≡ verdict
           → cond (eqb (solving_as v t stamp flow side work).answer.refusal 0) (work_need t.nodes (arcs t)) 0 ≤ length work
-      go Fine e = (plain_roomy (sym e)).for_work
-      go (Refused name place) e = rw (ne_eqb (number_of name) 0 (number_positive name)) (omega arith)
+      go (Ok _) e = (plain_roomy (sym e)).for_work
+      go (Err why) e = rw (ne_eqb (number_of why.name) 0 (number_positive why.name)) (omega arith)
 
   -- With another work row of that length lent: the answer, the flows and the marks are the same, and that row is cleared.
   pub record SameButWork (other : List ℕ) : Type 0 where
@@ -131,21 +130,21 @@ module _ (b : BoundedTable) (stamp : ℕ) (flow side work : List ℕ) where
       }
     where
       answer_by : (v : Verdict) → (solving_as v t stamp flow side other).answer ≡ (solving_as v t stamp flow side work).answer
-      answer_by Fine = refl
-      answer_by (Refused name place) = refl
+      answer_by (Ok _) = refl
+      answer_by (Err why) = refl
 
       flow_by : (v : Verdict) → (solving_as v t stamp flow side other).flow ≡ (solving_as v t stamp flow side work).flow
-      flow_by Fine = refl
-      flow_by (Refused name place) = refl
+      flow_by (Ok _) = refl
+      flow_by (Err why) = refl
 
       side_by : (v : Verdict) → (solving_as v t stamp flow side other).side ≡ (solving_as v t stamp flow side work).side
-      side_by Fine = refl
-      side_by (Refused name place) = refl
+      side_by (Ok _) = refl
+      side_by (Err why) = refl
 
       work_by : (v : Verdict) → (solving_as v t stamp flow side other).work
           ≡ cleared (cond (eqb (solving_as v t stamp flow side work).answer.refusal 0) (work_need t.nodes (arcs t)) 0) other
-      work_by Fine = refl
-      work_by (Refused name place) = rw (ne_eqb (number_of name) 0 (number_positive name))
+      work_by (Ok _) = refl
+      work_by (Err why) = rw (ne_eqb (number_of why.name) 0 (number_positive why.name))
 
   -- What refuses nothing meets demands 2 and 3.
   pub plain_meets : (l : Left) → l ≡ plain_solving b stamp flow side work → l.answer.refusal ≡ 0 → Meets t l
@@ -153,10 +152,10 @@ module _ (b : BoundedTable) (stamp : ℕ) (flow side work : List ℕ) where
   plain_meets l same none = go verdict refl
     where
       go : (v : Verdict) → v ≡ verdict → Meets t l
-      go Fine e = subst (Meets t) (sym (same ∙ rw (← e))) (solved_meets t stamp flow side work (plain_accepted (sym e)))
-      go (Refused name place) e =
-          let is : l ≡ left (refusal name place) flow side work = same ∙ rw (← e) in
-          absurd (number_positive name (sym (ap (λ (x : Left). x.answer.refusal) is) ∙ none))
+      go (Ok _) e = subst (Meets t) (sym (same ∙ rw (← e))) (solved_meets t stamp flow side work (plain_accepted (sym e)))
+      go (Err why) e =
+          let is : l ≡ left (refusal why.name why.place) flow side work = same ∙ rw (← e) in
+          absurd (number_positive why.name (sym (ap (λ (x : Left). x.answer.refusal) is) ∙ none))
 
   -- With a minimum for each arc that is 0 it is document 01's solving.
   pub plain_solving_lem : plain b ≡ true → plain_solving b stamp flow side work ≡ solving t stamp flow side work
@@ -166,12 +165,12 @@ module _ (b : BoundedTable) (stamp : ℕ) (flow side work : List ℕ) where
       rw (plain_check_lem b (has_room t.nodes (arcs t) (length flow) (length side) (length work)) zeros, all)
       (ap (λ (v : Verdict). solving_as v t stamp flow side work) (or_fine (solving_verdict t (length flow) (length side) (length work))))
     where
-      or_fine : (v : Verdict) → or_else v Fine ≡ v
-      or_fine Fine = refl
-      or_fine (Refused name place) = refl
+      or_fine : (v : Verdict) → or_else v fine ≡ v
+      or_fine (Ok _) = refl
+      or_fine (Err why) = refl
 
   -- With a minimum above 0, where the table's own checks refuse nothing, it is BOUNDED (21), and every row stays.
-  pub plain_bounded : bounded_check b (has_room t.nodes (arcs t) (length flow) (length side) (length work)) ≡ Fine → all_zero b.minimums ≡ false
+  pub plain_bounded : bounded_check b (has_room t.nodes (arcs t) (length flow) (length side) (length work)) ≡ fine → all_zero b.minimums ≡ false
       → plain_solving b stamp flow side work ≡ left (refusal Bounded 0) flow side work
   unfolding plain_solving solving_as or_else
   plain_bounded fine some = rw (fine, some)

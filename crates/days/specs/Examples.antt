@@ -2,9 +2,8 @@
 use Rattle.std.specs.Prelude.{◌≡◌, refl, List, [], ◌∷◌, ◌++◌, ℕ, replicate}
 use Rattle.rows.specs.Sum.{sum}
 use Rattle.network.specs.Network.{inflow, outflow}
-use Rattle.table.specs.Checks.{outside, differ, bad_ends, arc_fault, or_else, in_order}
+use Rattle.table.specs.Checks.{outside, differ, bad_ends, arc_fault, or_else, in_order, fine, refused}
 use Rattle.table.specs.declared.Name.TheVariants.{Rows, Room, Starts}
-use Rattle.table.specs.declared.Verdict.TheVariants.{Fine, Refused}
 use Rattle.minimums.specs.Checks.{differ_four, bounded_sizes, bounded_fault, first_bounded_fault, all_zero}
 use Rattle.reach.specs.Side.{side_from}
 use Rattle.run.specs.Scale.{phase_count, scale_of}
@@ -22,29 +21,29 @@ abbrev two : (starts minimums : List ℕ) → Days
 two starts minimums = days_of starts (2 ∷ 2 ∷ []) (1 ∷ 1 ∷ []) (2 ∷ 2 ∷ []) (7 ∷ 8 ∷ []) (1 ∷ 1 ∷ []) (2 ∷ 2 ∷ []) (3 ∷ 4 ∷ []) minimums
 
 -- Each day has one arc; the first day may have none, or start behind earlier places.
-one_each : month_verdict (two (0 ∷ 1 ∷ []) (0 ∷ 0 ∷ [])) 2 1024 18 ≡ Fine
+one_each : month_verdict (two (0 ∷ 1 ∷ []) (0 ∷ 0 ∷ [])) 2 1024 18 ≡ fine
 unfolding verdict_of rows_differ starts_fall has_month_room differ differ_four
 one_each = refl
 
-behind_earlier_places : month_verdict (two (1 ∷ 1 ∷ []) (0 ∷ 0 ∷ [])) 2 1024 18 ≡ Fine
+behind_earlier_places : month_verdict (two (1 ∷ 1 ∷ []) (0 ∷ 0 ∷ [])) 2 1024 18 ≡ fine
 unfolding verdict_of rows_differ starts_fall has_month_room differ differ_four
 behind_earlier_places = refl
 
 -- Starts that fall, and one that passes the rows' end.
-falls : month_verdict (two (1 ∷ 0 ∷ []) (0 ∷ 0 ∷ [])) 2 1024 18 ≡ Refused Starts 0
+falls : month_verdict (two (1 ∷ 0 ∷ []) (0 ∷ 0 ∷ [])) 2 1024 18 ≡ refused Starts 0
 unfolding verdict_of rows_differ starts_fall has_month_room differ differ_four
 falls = refl
 
-passes : month_verdict (two (0 ∷ 3 ∷ []) (0 ∷ 0 ∷ [])) 2 1024 18 ≡ Refused Starts 0
+passes : month_verdict (two (0 ∷ 3 ∷ []) (0 ∷ 0 ∷ [])) 2 1024 18 ≡ refused Starts 0
 unfolding verdict_of rows_differ starts_fall has_month_room differ differ_four
 passes = refl
 
 -- A missing minimum is ROWS, before STARTS; one mark or one number too few is ROOM.
-rows_first : month_verdict (two (1 ∷ 0 ∷ []) (0 ∷ [])) 2 1024 18 ≡ Refused Rows 0
+rows_first : month_verdict (two (1 ∷ 0 ∷ []) (0 ∷ [])) 2 1024 18 ≡ refused Rows 0
 unfolding verdict_of rows_differ starts_fall has_month_room differ differ_four
 rows_first = refl
 
-short_side : month_verdict (two (0 ∷ 1 ∷ []) (0 ∷ 0 ∷ [])) 2 1023 18 ≡ Refused Room 0
+short_side : month_verdict (two (0 ∷ 1 ∷ []) (0 ∷ 0 ∷ [])) 2 1023 18 ≡ refused Room 0
 unfolding verdict_of rows_differ starts_fall has_month_room differ differ_four
 short_side = refl
 

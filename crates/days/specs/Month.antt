@@ -1,11 +1,9 @@
 -- Document 02, CR 10: what a month in one call answers, and what the lent rows hold afterwards.
-use Rattle.std.specs.Prelude.{ℕ, zero, suc, ◌+◌, ◌*◌, Bool, false, not, ◌&&◌, ◌||◌, List, ltb, leb, length, get_or}
-use Rattle.table.specs.Checks.{differ, refuse_if}
+use Rattle.std.specs.Prelude.{ℕ, zero, suc, ◌+◌, ◌*◌, Bool, false, not, ◌&&◌, ◌||◌, List, ltb, leb, length, get_or, Ok, Err}
+use Rattle.table.specs.Checks.{differ, refuse_if, fine, Verdict}
 use Rattle.table.specs.Refusals.{number_of}
 use Rattle.table.specs.declared.Name.{Name}
 use Rattle.table.specs.declared.Name.TheVariants.{Rows, Room, Many, Starts}
-use Rattle.table.specs.declared.Verdict.{Verdict}
-use Rattle.table.specs.declared.Verdict.TheVariants.{Fine, Refused}
 use Rattle.minimums.specs.Checks.{differ_four}
 use Rattle.tally.specs.declared.Tally.{Tally}
 use Rattle.tally.specs.Sums.{no_tally}
@@ -34,7 +32,7 @@ verdict_of starts nodes sources sinks stamps tails heads capacities minimums flo
     refuse_if (ltb 31 (length starts)) Many 0
     (refuse_if (rows_differ (length starts) nodes sources sinks stamps tails heads capacities minimums) Rows 0
     (refuse_if (starts_fall starts capacities (length starts)) Starts 0
-    (refuse_if (not (has_month_room (length starts) capacities flow side answers)) Room 0 Fine)))
+    (refuse_if (not (has_month_room (length starts) capacities flow side answers)) Room 0 fine)))
 
 -- The verdict of a month's days.
 abbrev pub month_verdict : Days → (flow side answers : ℕ) → Verdict
@@ -70,8 +68,8 @@ month_of h = month_left (month_sums h.tally) h.flow h.side h.work h.answers
 
 -- A refusal of the whole call leaves every lent row unchanged.
 unfoldable pub month_as : Verdict → Days → (flow side work answers : List ℕ) → MonthLeft
-month_as Fine d flow side work answers = month_of (first_days d (tables d) (held no_tally flow side work answers))
-month_as (Refused name place) d flow side work answers = month_left (month_refusal name place) flow side work answers
+month_as (Ok _) d flow side work answers = month_of (first_days d (tables d) (held no_tally flow side work answers))
+month_as (Err why) d flow side work answers = month_left (month_refusal why.name why.place) flow side work answers
 
 -- Solving a month's tables, with these rows lent.
 unfoldable pub month : Days → (flow side work answers : List ℕ) → MonthLeft

@@ -1,14 +1,13 @@
 -- An opening's promise, by what the checks find.
+use Rattle.std.specs.Prelude.{Ok, Err}
 use Rattle.std.proofs.Common.{◌≡◌, ℕ, ◌+◌, ◌≤◌, List, ◌++◌, length, take, drop, set, replicate, sym, refl, ap, ◌∙◌, subst, arith, length-take-le, get_or-take, take_at}
 use Rattle.rows.specs.Row.{at_place}
 use Rattle.network.specs.Network.{Flow}
 use Rattle.network.proofs.Agree.{flow_agree}
 use Rattle.table.specs.Table.{Table, table_of, arcs, network_of}
 use Rattle.table.specs.Accepted.{Accepted}
-use Rattle.table.specs.Checks.{is_fine, or_else}
+use Rattle.table.specs.Checks.{is_fine, or_else, fine, refused, Verdict}
 use Rattle.table.specs.declared.Name.{Name}
-use Rattle.table.specs.declared.Verdict.{Verdict}
-use Rattle.table.specs.declared.Verdict.TheVariants.{Fine, Refused}
 use Rattle.table.specs.Refusals.{refusal_in}
 use Rattle.table.proofs.Numbers.{number_positive}
 use Rattle.reach.specs.Side.{side_of}
@@ -155,19 +154,19 @@ went_fine t stamp flow side work = refl
 -- By the verdict on the change, of an accepted table with room.
 module _ (t : Table) (stamp place new : ℕ) (flow side work : List ℕ) (v : Verdict) (found : v ≡ change_verdict t place new flow) where
   -- Where it refuses, the call gives that refusal and leaves the rows.
-  pub refused_change : (name : Name) (at : ℕ) → v ≡ Refused name at → (r : Answer) → r ≡ refusal name at
+  pub refused_change : (name : Name) (at : ℕ) → v ≡ refused name at → (r : Answer) → r ≡ refusal name at
       → left r flow side work ≡ opening_as (change_verdict t place new flow) (opened t place new) stamp flow side work
   unfolding opening_as
   refused_change name at e r f = rw (← found, e) (ap (λ (a : Answer). left a flow side work) f)
 
   -- Where it does not, the call goes on.
-  pub fine_change : v ≡ Fine → (l : Left) → l ≡ went_on (opened t place new) stamp flow side work
+  pub fine_change : v ≡ fine → (l : Left) → l ≡ went_on (opened t place new) stamp flow side work
       → l ≡ opening_as (change_verdict t place new flow) (opened t place new) stamp flow side work
   unfolding opening_as
   fine_change e l f = rw (← found, e) f
 
   -- Then what it asks holds.
-  pub change_asks : v ≡ Fine → Accepted t → (arcs t ≤ length flow) × (t.nodes ≤ length side) × (work_need t.nodes (arcs t) ≤ length work)
+  pub change_asks : v ≡ fine → Accepted t → (arcs t ≤ length flow) × (t.nodes ≤ length side) × (work_need t.nodes (arcs t) ≤ length work)
       → Opens t place new flow (length side) (length work)
   change_asks e ok room =
       (change_opens t place new flow (length side) (length work) ok (record { for_flow = room.0; for_side = room.1; for_work = room.2 }) (ap is_fine (sym found ∙ e))).0
@@ -176,18 +175,18 @@ module _ (t : Table) (stamp place new : ℕ) (flow side work : List ℕ) (v : Ve
 module _ (b : BoundedTable) (stamp place new : ℕ) (flow side work : List ℕ) (v : Verdict)
     (found : v ≡ plain_check b (has_room b.table.nodes (arcs b.table) (length flow) (length side) (length work))) where
   -- Where it refuses, the call gives that refusal and leaves the rows.
-  pub refused_own : (name : Name) (at : ℕ) → v ≡ Refused name at → (r : Answer) → r ≡ refusal name at → left r flow side work ≡ opening b stamp place new flow side work
+  pub refused_own : (name : Name) (at : ℕ) → v ≡ refused name at → (r : Answer) → r ≡ refusal name at → left r flow side work ≡ opening b stamp place new flow side work
   unfolding opening opening_as opening_verdict or_else
   refused_own name at e r f = rw (← found, e) (ap (λ (a : Answer). left a flow side work) f)
 
   -- Where it does not, the table is accepted and the rows have room,
-  pub own_accepts : v ≡ Fine → Accepted b.table × Roomy b.table.nodes (arcs b.table) (length flow) (length side) (length work)
+  pub own_accepts : v ≡ fine → Accepted b.table × Roomy b.table.nodes (arcs b.table) (length flow) (length side) (length work)
   own_accepts e =
       let (ok, room) = plain_accepts b _ (ap is_fine (sym found ∙ e)) in
       (ok, room_roomy b.table.nodes (arcs b.table) (length flow) (length side) (length work) room)
 
   -- and the change decides.
-  pub fine_own : v ≡ Fine → (l : Left) → l ≡ opening_as (change_verdict b.table place new flow) (opened b.table place new) stamp flow side work
+  pub fine_own : v ≡ fine → (l : Left) → l ≡ opening_as (change_verdict b.table place new flow) (opened b.table place new) stamp flow side work
       → l ≡ opening b stamp place new flow side work
   unfolding opening opening_verdict or_else
   fine_own e l f = rw (← found, e) f
@@ -195,12 +194,12 @@ module _ (b : BoundedTable) (stamp place new : ℕ) (flow side work : List ℕ) 
 -- By the whole verdict.
 module _ (b : BoundedTable) (stamp place new : ℕ) (flow side work : List ℕ) (v : Verdict) (found : v ≡ opening_verdict b place new flow (length side) (length work)) where
   -- A refusal is given, and the rows left.
-  refused_opening : (name : Name) (at : ℕ) → v ≡ Refused name at → left (refusal name at) flow side work ≡ opening b stamp place new flow side work
+  refused_opening : (name : Name) (at : ℕ) → v ≡ refused name at → left (refusal name at) flow side work ≡ opening b stamp place new flow side work
   unfolding opening opening_as
   refused_opening name at e = rw (← found, e)
 
   -- Or the call goes on.
-  fine_opening : v ≡ Fine → went_on (opened b.table place new) stamp flow side work ≡ opening b stamp place new flow side work
+  fine_opening : v ≡ fine → went_on (opened b.table place new) stamp flow side work ≡ opening b stamp place new flow side work
   unfolding opening opening_as
   fine_opening e = rw (← found, e)
 
@@ -210,25 +209,25 @@ module _ (b : BoundedTable) (stamp place new : ℕ) (flow side work : List ℕ) 
   opening_reopens none = go (opening_verdict b place new flow (length side) (length work)) refl
     where
       go : (v : Verdict) → v ≡ opening_verdict b place new flow (length side) (length work) → Reopens b.table (opened b.table place new) flow l
-      go Fine e =
+      go (Ok _) e =
           let (opens, most) = fine_opens b place new flow (length side) (length work) (sym e) in
           subst (Reopens b.table (opened b.table place new) flow)
-          (fine_opening b stamp place new flow side work Fine e refl ∙ sym same)
+          (fine_opening b stamp place new flow side work fine e refl ∙ sym same)
           (went_reopens opens most stamp side work)
-      go (Refused name at) e =
+      go (Err why) e =
           absurd
-          (number_positive name
-          (ap (λ (x : Left). x.answer.refusal) (refused_opening b stamp place new flow side work (Refused name at) e name at refl ∙ sym same) ∙ none))
+          (number_positive why.name
+          (ap (λ (x : Left). x.answer.refusal) (refused_opening b stamp place new flow side work (refused why.name why.place) e why.name why.place refl ∙ sym same) ∙ none))
 
   -- And 23 says that the row is not a maximum flow of the old table.
   pub opening_notmax : l.answer.refusal ≡ 23 → MaximumFlow b.table flow → ⊥
   opening_notmax refused = go (opening_verdict b place new flow (length side) (length work)) refl
     where
       go : (v : Verdict) → v ≡ opening_verdict b place new flow (length side) (length work) → MaximumFlow b.table flow → ⊥
-      go Fine e most =
-          let zero = ap (λ (x : Left). x.answer.refusal) (fine_opening b stamp place new flow side work Fine e refl ∙ sym same) in
+      go (Ok _) e most =
+          let zero = ap (λ (x : Left). x.answer.refusal) (fine_opening b stamp place new flow side work fine e refl ∙ sym same) in
           omega (arith, went_fine (opened b.table place new) stamp flow side work, zero, refused)
-      go (Refused name at) e most =
+      go (Err why) e most =
           notmax_not b place new flow (length side) (length work)
-          (ap refusal_in (sym e) ∙ ap (λ (x : Left). x.answer.refusal) (refused_opening b stamp place new flow side work (Refused name at) e name at refl ∙ sym same) ∙ refused)
+          (ap refusal_in (sym e) ∙ ap (λ (x : Left). x.answer.refusal) (refused_opening b stamp place new flow side work (refused why.name why.place) e why.name why.place refl ∙ sym same) ∙ refused)
           most

@@ -1,11 +1,9 @@
 -- Document 02, CR 12: a chair opens. The old table, its flow, a place and a new capacity give the new answer.
-use Rattle.std.specs.Prelude.{◌≡◌, ℕ, not, List, ◌++◌, length, take, drop, nat_le, nat_lt, slice_set}
+use Rattle.std.specs.Prelude.{◌≡◌, ℕ, not, List, ◌++◌, length, take, drop, nat_le, nat_lt, slice_set, Ok, Err}
 use Rattle.rows.specs.Row.{cleared}
 use Rattle.table.specs.Table.{Table, table_of, arcs, capacity, network_of}
-use Rattle.table.specs.Checks.{refuse_if, or_else}
+use Rattle.table.specs.Checks.{refuse_if, or_else, fine, Verdict}
 use Rattle.table.specs.declared.Name.TheVariants.{Place, Capacity, Lower, NotMax}
-use Rattle.table.specs.declared.Verdict.{Verdict}
-use Rattle.table.specs.declared.Verdict.TheVariants.{Fine, Refused}
 use Rattle.reach.specs.Side.{side_of}
 use Rattle.run.specs.Phase.{run, value, no_steps}
 use Rattle.run.specs.Demands.{Best}
@@ -29,7 +27,7 @@ change_verdict t place new flow =
     refuse_if (nat_le (arcs t) place) Place place
     (refuse_if (nat_lt 1000000 new) Capacity place
     (refuse_if (nat_lt new (capacity t place)) Lower 0
-    (refuse_if (not (is_maximum t flow)) NotMax 0 Fine)))
+    (refuse_if (not (is_maximum t flow)) NotMax 0 fine)))
 
 -- The order: the old table's own refusals as for solving, BOUNDED, then these. Of side and work row only the lengths count.
 unfoldable pub opening_verdict : BoundedTable → (place capacity : ℕ) → (flow : List ℕ) → (side work : ℕ) → Verdict
@@ -54,8 +52,8 @@ went_on t stamp flow side work =
 -- A refusal returns its number and place and leaves every lent row unchanged.
 unfoldable pub opening_as : Verdict → Table → (stamp : ℕ) → (flow side work : List ℕ) → Left
 unfolding went_on
-opening_as Fine new stamp flow side work = went_on new stamp flow side work
-opening_as (Refused name place) new stamp flow side work = left (refusal name place) flow side work
+opening_as (Ok _) new stamp flow side work = went_on new stamp flow side work
+opening_as (Err why) new stamp flow side work = left (refusal why.name why.place) flow side work
 
 -- Opening the arc at the place of the old table to the new capacity, with these rows lent.
 unfoldable pub opening : BoundedTable → (stamp place capacity : ℕ) → (flow side work : List ℕ) → Left

@@ -1,4 +1,5 @@
 -- From the checks to the promise: solving's demands and document 02's theorem of a table that nothing refuses.
+use Rattle.std.specs.Prelude.{Ok, Err}
 use Prim.Native.Nat.{ℕ, suc}
 use mathlib.Core.Path.{◌≡◌, refl, sym, ap, subst⁻¹, ◌∙◌}
 use mathlib.Core.List.{List}
@@ -7,10 +8,8 @@ use lib.ListN.{length}
 use Rattle.rows.specs.Row.{at_place}
 use Rattle.table.specs.Table.{Table, arcs, network_of}
 use Rattle.table.specs.Accepted.{Accepted}
-use Rattle.table.specs.Checks.{is_fine, or_else}
+use Rattle.table.specs.Checks.{is_fine, or_else, fine, refused, Verdict}
 use Rattle.table.specs.declared.Name.{Name}
-use Rattle.table.specs.declared.Verdict.{Verdict}
-use Rattle.table.specs.declared.Verdict.TheVariants.{Fine, Refused}
 use Rattle.table.proofs.Numbers.{number_positive}
 use Rattle.minimums.specs.BoundedTable.{BoundedTable}
 use Rattle.minimums.proofs.Accepting.{plain_accepts}
@@ -59,10 +58,10 @@ found_lists t ok stamp flow side work sources sinks places =
     }
 
 -- Where two verdicts refuse nothing, the first does not.
-first_fine : (a b : Verdict) → or_else a b ≡ Fine → a ≡ Fine
+first_fine : (a b : Verdict) → or_else a b ≡ fine → a ≡ fine
 unfolding or_else
-first_fine Fine b e = refl
-first_fine (Refused name place) b e = absurd (let z : ◌≡◌ {A = ℕ} 0 1 = cc in omega arith)
+first_fine (Ok _) b e = refl
+first_fine (Err why) b e = absurd (let z : ◌≡◌ {A = ℕ} 0 1 = cc in omega arith)
 
 -- A solved table's answer and rows are those that it is made of.
 solved_parts : (t : Table) (stamp : ℕ) (flow side work : List ℕ)
@@ -74,12 +73,12 @@ solved_parts t stamp flow side work = refl
 module _ (b : BoundedTable) (stamp : ℕ) (flow side work sources sinks places : List ℕ) where
   module _ (v : Verdict) (checked : v ≡ plain_verdict b (length flow) (length side) (length work)) where
     -- Where the table's checks refuse, the call gives that refusal and leaves the rows.
-    pub refused_finding : (name : Name) (place : ℕ) → v ≡ Refused name place → (r : Openings) → r ≡ openings_with (refusal name place) 0 0 0
+    pub refused_finding : (name : Name) (place : ℕ) → v ≡ refused name place → (r : Openings) → r ≡ openings_with (refusal name place) 0 0 0
         → left_openings r flow side work sources sinks places ≡ finding b stamp flow side work sources sinks places
     unfolding finding finding_as or_else
     refused_finding name place e r f = rw (← checked, e) (ap (λ (a : Openings). left_openings a flow side work sources sinks places) f)
 
-    module _ (fine : v ≡ Fine) where
+    module _ (fine : v ≡ fine) where
       -- Where they do not, the lists' room decides.
       pub fine_finding : (l : LeftOpenings) → l ≡ finding_as (lists_verdict b.table (length sources) (length sinks) (length places)) b.table stamp flow side work sources sinks places
           → l ≡ finding b stamp flow side work sources sinks places
@@ -105,11 +104,11 @@ module _ (b : BoundedTable) (stamp : ℕ) (flow side work sources sinks places :
 
       go : (v : Verdict) → finding_verdict b (length flow) (length side) (length work) (length sources) (length sinks) (length places) ≡ v
           → Meets b.table (left l.openings.answer l.flow l.side l.work) × HelpsExactly b.table
-      go Fine e =
-          let ok = fine_accepted Fine (sym (first_fine _ _ e)) refl in
+      go (Ok _) e =
+          let ok = fine_accepted fine (sym (first_fine _ _ e)) refl in
           let parts = ap (λ (x : LeftOpenings). left x.openings.answer x.flow x.side x.work) (same ∙ ap by e) ∙ solved_parts b.table stamp flow side work in
           (subst⁻¹ (Meets b.table) parts (solved_meets b.table stamp flow side work ok), helps_exactly b.table ok)
-      go (Refused name place) e = absurd (number_positive name (ap (λ (x : LeftOpenings). x.openings.answer.refusal) (sym (same ∙ ap by e)) ∙ none))
+      go (Err why) e = absurd (number_positive why.name (ap (λ (x : LeftOpenings). x.openings.answer.refusal) (sym (same ∙ ap by e)) ∙ none))
 
   -- Where nothing is refused, the three lists hold what they should, rising.
   pub finding_lists : (l : LeftOpenings) → l ≡ finding b stamp flow side work sources sinks places → l.openings.answer.refusal ≡ 0 → HoldsLists b.table l
@@ -121,7 +120,7 @@ module _ (b : BoundedTable) (stamp : ℕ) (flow side work sources sinks places :
 
       go : (v : Verdict) → finding_verdict b (length flow) (length side) (length work) (length sources) (length sinks) (length places) ≡ v
           → HoldsLists b.table l
-      go Fine e =
+      go (Ok _) e =
           subst⁻¹ (HoldsLists b.table) (same ∙ ap by e)
-          (found_lists b.table (fine_accepted Fine (sym (first_fine _ _ e)) refl) stamp flow side work sources sinks places)
-      go (Refused name place) e = absurd (number_positive name (ap (λ (x : LeftOpenings). x.openings.answer.refusal) (sym (same ∙ ap by e)) ∙ none))
+          (found_lists b.table (fine_accepted fine (sym (first_fine _ _ e)) refl) stamp flow side work sources sinks places)
+      go (Err why) e = absurd (number_positive why.name (ap (λ (x : LeftOpenings). x.openings.answer.refusal) (sym (same ∙ ap by e)) ∙ none))

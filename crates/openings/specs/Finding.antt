@@ -1,12 +1,10 @@
 -- Document 02, CR 13, the first call: what it answers, and what the lent rows hold afterwards.
-use Rattle.std.specs.Prelude.{ℕ, suc, Bool, cond, not, ◌&&◌, ◌≡◌, List, leb, length, take}
+use Rattle.std.specs.Prelude.{ℕ, suc, Bool, cond, not, ◌&&◌, ◌≡◌, List, leb, length, take, Ok, Err}
 use Rattle.rows.specs.Lent.{LentRow}
 use Rattle.rows.specs.Row.{cleared}
 use Rattle.table.specs.Table.{Table, arcs}
-use Rattle.table.specs.Checks.{refuse_if, or_else}
+use Rattle.table.specs.Checks.{refuse_if, or_else, fine, Verdict}
 use Rattle.table.specs.declared.Name.TheVariants.{Room}
-use Rattle.table.specs.declared.Verdict.{Verdict}
-use Rattle.table.specs.declared.Verdict.TheVariants.{Fine, Refused}
 use Rattle.minimums.specs.BoundedTable.{BoundedTable}
 use Rattle.verdicts.specs.Plain.{plain_verdict}
 use Rattle.arcs.specs.Work.{work_need}
@@ -43,7 +41,7 @@ has_lists sides ends helping sources sinks places = leb (length sides) sources &
 -- ROOM, last of all, if a list can't hold its side or the places.
 abbrev pub lists_verdict : Table → (sources sinks places : ℕ) → Verdict
 lists_verdict t sources sinks places =
-    refuse_if (not (has_lists (source_nodes t) (sink_nodes t) (helping_places t) sources sinks places)) Room 0 Fine
+    refuse_if (not (has_lists (source_nodes t) (sink_nodes t) (helping_places t) sources sinks places)) Room 0 fine
 
 -- What the checks find: as for solving, then BOUNDED, then the lists' ROOM.
 abbrev pub finding_verdict : BoundedTable → (flow side work sources sinks places : ℕ) → Verdict
@@ -58,9 +56,9 @@ found t stamp flow side work sources sinks places =
 
 -- A refusal leaves every lent row unchanged.
 unfoldable pub finding_as : Verdict → Table → (stamp : ℕ) → (flow side work sources sinks places : List ℕ) → LeftOpenings
-finding_as Fine t stamp flow side work sources sinks places = found t stamp flow side work sources sinks places
-finding_as (Refused name place) t stamp flow side work sources sinks places =
-    left_openings (openings_with (refusal name place) 0 0 0) flow side work sources sinks places
+finding_as (Ok _) t stamp flow side work sources sinks places = found t stamp flow side work sources sinks places
+finding_as (Err why) t stamp flow side work sources sinks places =
+    left_openings (openings_with (refusal why.name why.place) 0 0 0) flow side work sources sinks places
 
 -- Finding the openings of a table with its stamp, with these rows lent.
 unfoldable pub finding : BoundedTable → (stamp : ℕ) → (flow side work sources sinks places : List ℕ) → LeftOpenings

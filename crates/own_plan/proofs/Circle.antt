@@ -1,4 +1,5 @@
 -- Our own answer: what solving leaves, written out, is never SOLUTION, and is a full plan.
+use Rattle.std.specs.Prelude.{Ok, Err}
 use Prim.Native.Nat.{ℕ, ◌≤◌, ◌<◌}
 use mathlib.Core.Path.{◌≡◌, refl, sym, ap, subst, subst⁻¹, ◌∙◌}
 use mathlib.Core.Bool.{true, false}
@@ -12,11 +13,9 @@ use lib.Seq.{take_at}
 use Rattle.rows.proofs.Sums.{by_test}
 use Rattle.table.specs.Table.{arcs}
 use Rattle.table.specs.Accepted.{Accepted}
-use Rattle.table.specs.Checks.{is_fine}
+use Rattle.table.specs.Checks.{is_fine, fine, refused, Verdict}
 use Rattle.table.specs.Refusals.{number_of}
 use Rattle.table.specs.declared.Name.TheVariants.{Room, Solution}
-use Rattle.table.specs.declared.Verdict.{Verdict}
-use Rattle.table.specs.declared.Verdict.TheVariants.{Fine, Refused}
 use Rattle.table.proofs.Numbers.{number_positive}
 use Rattle.minimums.specs.BoundedTable.{BoundedTable}
 use Rattle.minimums.specs.Checks.{plain_check}
@@ -69,7 +68,7 @@ module _ (b : BoundedTable) (fine : is_fine (plain_check b true) ≡ true) (ok :
       (no_leb (length own) (length text) short) in
       sym
       (ap (λ (l : WritingLeft). l.written)
-      (writing_refused b (own_value b.table ok) flows text (Refused Room 0) verdict (written_with (number_of Room) 0 0) Room 0 refl refl))
+      (writing_refused b (own_value b.table ok) flows text (refused Room 0) verdict (written_with (number_of Room) 0 0) Room 0 refl refl))
     where
       no_leb : (x y : ℕ) → y < x → leb x y ≡ false
       no_leb x y l = by_test (leb x y) (λ e. absurd (omega (arith, leb-true x y e))) (λ e. e)
@@ -108,8 +107,8 @@ solving_full b fine stamp flow side work text none = by (solving_verdict b.table
     left_by v = solving_as v b.table stamp flow side work
 
     by : (v : Verdict) → (left_by v).answer.refusal ≡ 0 → WrittenFull b (left_by v).answer.value (left_by v).flow (left_by v).side text
-    by Fine z = own_full b fine (plain_accepts b true fine).0 (drop (arcs b.table) flow) (drop b.table.nodes side) text
-    by (Refused name place) z = absurd (number_positive name z)
+    by (Ok _) z = own_full b fine (plain_accepts b true fine).0 (drop (arcs b.table) flow) (drop b.table.nodes side) text
+    by (Err why) z = absurd (number_positive why.name z)
 
 -- So is what `planner::solve` leaves of a table without minimums: its value is a number, and writing it out with its flow row is never refused as
 -- SOLUTION; what was written, checked with its side row, gets a yes.

@@ -7,12 +7,10 @@ use lib.ListN.{length}
 use borrow.Author.Tests.{leb-true}
 use Rattle.table.specs.Table.{Table}
 use Rattle.table.specs.Accepted.{Accepted}
-use Rattle.table.specs.Checks.{or_else}
+use Rattle.table.specs.Checks.{or_else, fine, refused, Verdict}
 use Rattle.table.specs.Refusals.{number_of}
 use Rattle.table.specs.declared.Name.{Name}
 use Rattle.table.specs.declared.Name.TheVariants.{Solution}
-use Rattle.table.specs.declared.Verdict.{Verdict}
-use Rattle.table.specs.declared.Verdict.TheVariants.{Fine, Refused}
 use Rattle.minimums.specs.BoundedTable.{BoundedTable}
 use Rattle.scan.specs.Parts.{lines}
 use Rattle.intake.specs.Verdict.{text_verdict}
@@ -38,17 +36,17 @@ module _ (t : Table) (text side : List ℕ) (r : Checked) where
 -- The verdict before the text is read.
 module _ (b : BoundedTable) (text side : List ℕ) (v : Verdict) (verdict : v ≡ text_verdict b (length text) (leb b.table.nodes (length side))) where
   -- It refuses,
-  pub plan_refused : (r : Checked) (name : Name) (place : ℕ) → v ≡ Refused name place → r ≡ checked_with (number_of name) place 0 → Checks b text side r
+  pub plan_refused : (r : Checked) (name : Name) (place : ℕ) → v ≡ refused name place → r ≡ checked_with (number_of name) place 0 → Checks b text side r
   unfolding Answers plan_verdict or_else
   plan_refused r name place e f = rw (← verdict, e) f
 
   -- or the text tells.
-  pub plan_fine : (r : Checked) → v ≡ Fine → Answers (lines_verdict (judged text)) (judged text) b.table text side r → Checks b text side r
+  pub plan_fine : (r : Checked) → v ≡ fine → Answers (lines_verdict (judged text)) (judged text) b.table text side r → Checks b text side r
   unfolding plan_verdict or_else
   plan_fine r e a = rw (← verdict, e) a
 
   -- The table is accepted then, the side row has n marks, and the text is not too long.
-  pub plan_accepts : v ≡ Fine → Accepted b.table × (b.table.nodes ≤ length side) × (length text ≤ 1048576)
+  pub plan_accepts : v ≡ fine → Accepted b.table × (b.table.nodes ≤ length side) × (length text ≤ 1048576)
   plan_accepts e =
       let (ok, room) = text_accepts b _ _ v verdict e in
       (ok, leb-true _ _ room, text_not_long b _ _ v verdict e)

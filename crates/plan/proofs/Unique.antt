@@ -1,4 +1,5 @@
 -- What the promise leaves open: nothing.
+use Rattle.std.specs.Prelude.{Ok, Err}
 use Prim.Native.Nat.{ℕ}
 use mathlib.Core.Path.{◌≡◌, sym, ap, ◌∙◌}
 use mathlib.Core.List.{List}
@@ -6,8 +7,6 @@ use native.Mathlib.Omega.{arith}
 use lib.ListN.{length}
 use Rattle.rows.proofs.Sums.{by_equal}
 use Rattle.table.specs.Table.{Table}
-use Rattle.table.specs.declared.Verdict.{Verdict}
-use Rattle.table.specs.declared.Verdict.TheVariants.{Fine, Refused}
 use Rattle.minimums.specs.BoundedTable.{BoundedTable}
 use Rattle.scan.specs.Parts.{lines}
 use Rattle.amounts.specs.declared.Judged.{Judged}
@@ -16,6 +15,7 @@ use Rattle.amounts.specs.Lines.{judged, amounts_of}
 use Rattle.sharing.specs.Full.{Full}
 use Rattle.plan.specs.declared.Checked.{Checked}
 use Rattle.plan.specs.Checking.{plan_verdict, checked_with, Flags, Answers, Checks}
+use Rattle.table.specs.Checks.{Verdict}
 
 -- A flag of the same thing is the same.
 flags_once : (P : Type 0) (a b : ℕ) → Flags a P → Flags b P → a ≡ b
@@ -26,9 +26,9 @@ flags_once P a b f g =
 -- Two answers to the same verdict and lines are equal,
 answers_once : (verdict : Verdict) (said : Judged) (t : Table) (text side : List ℕ) (r q : Checked) → Answers verdict said t text side r → Answers verdict said t text side q → r ≡ q
 unfolding Answers
-answers_once (Refused name place) said t text side r q a b = a ∙ sym b
-answers_once Fine (Fault place) t text side r q a b = absurd a
-answers_once Fine (Says value) t text side r q a b = a.0 ∙ ap (checked_with 0 0) (flags_once (Full t value (amounts_of (lines text)) side) r.full q.full a.1 b.1) ∙ sym b.0
+answers_once (Err why) said t text side r q a b = a ∙ sym b
+answers_once (Ok _) (Fault place) t text side r q a b = absurd a
+answers_once (Ok _) (Says value) t text side r q a b = a.0 ∙ ap (checked_with 0 0) (flags_once (Full t value (amounts_of (lines text)) side) r.full q.full a.1 b.1) ∙ sym b.0
 
 -- so results that meet the promise are equal.
 pub check_plan_unique : (b : BoundedTable) (text side : List ℕ) (r q : Checked) → Checks b text side r → Checks b text side q → r ≡ q

@@ -1,11 +1,9 @@
 -- Document 02, CR 8: what checking a plan returns.
-use Rattle.std.specs.Prelude.{ℕ, ◌≤◌, ◌≡◌, List, leb, length}
+use Rattle.std.specs.Prelude.{ℕ, ◌≤◌, ◌≡◌, List, leb, length, Ok, Err}
 use Rattle.table.specs.Table.{Table}
-use Rattle.table.specs.Checks.{or_else}
+use Rattle.table.specs.Checks.{or_else, fine, refused, Verdict}
 use Rattle.table.specs.Refusals.{number_of}
 use Rattle.table.specs.declared.Name.TheVariants.{Solution}
-use Rattle.table.specs.declared.Verdict.{Verdict}
-use Rattle.table.specs.declared.Verdict.TheVariants.{Fine, Refused}
 use Rattle.minimums.specs.BoundedTable.{BoundedTable}
 use Rattle.scan.specs.Parts.{lines}
 use Rattle.intake.specs.Verdict.{text_verdict}
@@ -17,8 +15,8 @@ use Rattle.plan.specs.declared.Checked.{Checked}
 
 -- SOLUTION at the first line that is not of its form, or one past the last if there is no `s` line.
 unfoldable pub lines_verdict : Judged → Verdict
-lines_verdict (Says value) = Fine
-lines_verdict (Fault place) = Refused Solution place
+lines_verdict (Says value) = fine
+lines_verdict (Fault place) = refused Solution place
 
 -- The order: LONG, the table's own checks with BOUNDED, ROOM for a short side row, SOLUTION.
 unfoldable pub plan_verdict : BoundedTable → (text : List ℕ) (side : ℕ) → Verdict
@@ -37,9 +35,9 @@ pub record Flags (flag : ℕ) (P : Type 0) : Type 0 where
 -- The answer to a plan: a refusal returns its number and place; else 1 exactly where the plan is full for the value that the `s` line says, and 0 elsewhere.
 -- (A line at fault is refused, so nothing is said of one that is not.)
 unfoldable pub Answers : Verdict → Judged → Table → (text side : List ℕ) → Checked → Type 0
-Answers (Refused name place) said t text side r = r ≡ checked_with (number_of name) place 0
-Answers Fine (Fault place) t text side r = ⊥
-Answers Fine (Says value) t text side r = (r ≡ checked_with 0 0 r.full) × Flags r.full (Full t value (amounts_of (lines text)) side)
+Answers (Err why) said t text side r = r ≡ checked_with (number_of why.name) why.place 0
+Answers (Ok _) (Fault place) t text side r = ⊥
+Answers (Ok _) (Says value) t text side r = (r ≡ checked_with 0 0 r.full) × Flags r.full (Full t value (amounts_of (lines text)) side)
 
 -- What checking promises.
 abbrev pub Checks : BoundedTable → (text side : List ℕ) → Checked → Type 0

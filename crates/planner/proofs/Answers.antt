@@ -11,12 +11,10 @@ use mir.Val.{to_z, of_z}
 use lib.ListN.{length}
 use Rattle.rows.specs.Row.{cleared}
 use Rattle.table.specs.Table.{Table, arcs}
-use Rattle.table.specs.Checks.{is_fine}
+use Rattle.table.specs.Checks.{is_fine, fine, refused, Verdict}
 use Rattle.table.specs.Accepted.{Accepted}
 use Rattle.table.specs.declared.Name.{Name}
 use Rattle.table.specs.declared.Name.TheVariants.{Impossible as ImpossibleName}
-use Rattle.table.specs.declared.Verdict.{Verdict}
-use Rattle.table.specs.declared.Verdict.TheVariants.{Fine, Refused}
 use Rattle.run.specs.Phase.{run, value}
 use Rattle.run.proofs.Answers.{run_value}
 use Rattle.arcs.specs.Work.{work_need}
@@ -98,7 +96,7 @@ module _ (b : BoundedTable) (stamp : ℕ) (flow side work : List ℕ) where
     as_plain e = is ∙ plain_check_lem b (has_room b.table.nodes (arcs b.table) (length flow) (length side) (length work)) e
 
     -- The checks refuse,
-    pub solves_refused : {name : Name} {place : ℕ} {r : Signed} → v ≡ Refused name place → r ≡ signed_refusal name place
+    pub solves_refused : {name : Name} {place : ℕ} {r : Signed} → v ≡ refused name place → r ≡ signed_refusal name place
         → Solves b stamp flow side work (signed_left r flow side work)
     solves_refused {name} {place} {r} e f = by (plain b) refl
       where
@@ -109,7 +107,7 @@ module _ (b : BoundedTable) (stamp : ℕ) (flow side work : List ℕ) where
         by false q = subst (λ x. BoundingAs x b stamp flow side work (signed_left r flow side work)) (sym e ∙ is) (ap (λ x. signed_left x flow side work) f)
 
     -- or they don't:
-    module _ (e : v ≡ Fine) where
+    module _ (e : v ≡ fine) where
       -- then the table is accepted, and the rows have room.
       pub fine_solvable : Solvable b flow side × (work_need b.table.nodes (arcs b.table) ≤ length work)
       fine_solvable =

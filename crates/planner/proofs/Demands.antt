@@ -1,4 +1,5 @@
 -- Demands 2 and 3 of what solving a table of four rows leaves.
+use Rattle.std.specs.Prelude.{Ok, Err}
 use Prim.Native.Nat.{ℕ}
 use mathlib.Core.Path.{◌≡◌, refl, sym, ap, subst, subst₂, ◌∙◌}
 use mathlib.Core.Bool.{Bool, true, false, false≢true}
@@ -7,8 +8,6 @@ use lib.IntN.{pos}
 use lib.ListN.{length}
 use Rattle.table.specs.Accepted.{Accepted}
 use Rattle.table.specs.declared.Name.TheVariants.{Impossible}
-use Rattle.table.specs.declared.Verdict.{Verdict}
-use Rattle.table.specs.declared.Verdict.TheVariants.{Fine, Refused}
 use Rattle.table.proofs.Numbers.{number_positive}
 use Rattle.run.specs.Phase.{run, value}
 use Rattle.run.proofs.Whole.{run_bounded}
@@ -19,6 +18,7 @@ use Rattle.minimums.specs.Checks.{plain}
 use Rattle.bounded.specs.Bounded.{GreatestBounded}
 use Rattle.planner.specs.Solving.{SignedLeft, left_with_sign, Bounding, impossible, found, BoundingAs, bounded_verdict, SolvesAs, Solves, SolvesWell}
 use Rattle.planner.proofs.Plain.{plain_greatest}
+use Rattle.table.specs.Checks.{fine, refused, Verdict}
 
 module _ (b : BoundedTable) (stamp : ℕ) (flow side work : List ℕ) where
   -- A solved table without minimums meets them,
@@ -35,14 +35,14 @@ module _ (b : BoundedTable) (stamp : ℕ) (flow side work : List ℕ) where
   plain_well l all same none = by (solving_verdict b.table (length flow) (length side) (length work)) refl
     where
       by : (v : Verdict) → v ≡ solving_verdict b.table (length flow) (length side) (length work) → SolvesWell b l
-      by Fine e =
-          subst (SolvesWell b) (ap left_with_sign (fine_solving b.table stamp flow side work Fine e refl (solved b.table stamp flow side work) refl) ∙ sym same)
-          (solved_well all (fine_accepted b.table stamp flow side work Fine e refl))
-      by (Refused name place) e =
+      by (Ok _) e =
+          subst (SolvesWell b) (ap left_with_sign (fine_solving b.table stamp flow side work fine e refl (solved b.table stamp flow side work) refl) ∙ sym same)
+          (solved_well all (fine_accepted b.table stamp flow side work fine e refl))
+      by (Err why) e =
           absurd
-          (number_positive name
+          (number_positive why.name
           (ap (λ (x : SignedLeft). x.answer.refusal)
-          (ap left_with_sign (refused_solving b.table stamp flow side work (Refused name place) e name place refl (refusal name place) refl) ∙ sym same)
+          (ap left_with_sign (refused_solving b.table stamp flow side work (refused why.name why.place) e why.name why.place refl (refusal why.name why.place) refl) ∙ sym same)
           ∙ none))
 
   -- so does one with a minimum above 0.
@@ -51,8 +51,8 @@ module _ (b : BoundedTable) (stamp : ℕ) (flow side work : List ℕ) where
   bounding_well some l (found value flow' side' holds best) none = record { greatest = best; bounded = λ all. absurd (false≢true (sym some ∙ all)) }
 
   some_well : plain b ≡ false → (v : Verdict) (l : SignedLeft) → BoundingAs v b stamp flow side work l → l.answer.refusal ≡ 0 → SolvesWell b l
-  some_well some Fine l so none = bounding_well some l so none
-  some_well some (Refused name place) l so none = absurd (number_positive name (ap (λ (x : SignedLeft). x.answer.refusal) (sym so) ∙ none))
+  some_well some (Ok _) l so none = bounding_well some l so none
+  some_well some (Err why) l so none = absurd (number_positive why.name (ap (λ (x : SignedLeft). x.answer.refusal) (sym so) ∙ none))
 
   -- What refuses nothing meets them.
   pub solves_well : (l : SignedLeft) → Solves b stamp flow side work l → l.answer.refusal ≡ 0 → SolvesWell b l

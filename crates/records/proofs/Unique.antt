@@ -1,4 +1,5 @@
 -- What the promise leaves open: what solving's does, and nothing else; and ROWS, number 2, is never given.
+use Rattle.std.specs.Prelude.{Ok, Err}
 use Prim.Native.Nat.{ℕ}
 use mathlib.Core.Path.{◌≡◌, refl, sym, ap, subst, ◌∙◌}
 use mathlib.Core.Bool.{Bool, true, false}
@@ -6,8 +7,6 @@ use mathlib.Core.List.{List}
 use native.Mathlib.Omega.{arith}
 use lib.ListN.{length}
 use Rattle.table.specs.Table.{Table, arcs}
-use Rattle.table.specs.declared.Verdict.{Verdict}
-use Rattle.table.specs.declared.Verdict.TheVariants.{Fine, Refused}
 use Rattle.minimums.specs.BoundedTable.{BoundedTable, record_table}
 use Rattle.minimums.specs.Checks.{plain}
 use Rattle.minimums.specs.declared.Arc.{Arc}
@@ -18,6 +17,7 @@ use Rattle.planner.specs.Solving.{SignedLeft, impossible, found, BoundingAs, bou
 use Rattle.planner.specs.Same.{Same}
 use Rattle.planner.proofs.Unique.{solve_unique}
 use Rattle.records.specs.Solve.{Promised}
+use Rattle.table.specs.Checks.{Verdict}
 
 -- Two results that meet the promise have the same answer and rows, but for the flows where a minimum is above 0.
 pub records_unique : (b : BoundedTable) (stamp : ℕ) (flow side work : List ℕ) (l k : SignedLeft)
@@ -27,15 +27,15 @@ records_unique b stamp flow side work l k p q = solve_unique b stamp flow side w
 -- By a verdict that is not ROWS document 01's answer is not,
 answer_rowless : (v : Verdict) (t : Table) (stamp : ℕ) (flow side work : List ℕ) → Rowless v → (solving_as v t stamp flow side work).answer.refusal ≡ 2 → ⊥
 unfolding solving_as solved answer_with
-answer_rowless Fine t stamp flow side work other e = omega arith
-answer_rowless (Refused name place) t stamp flow side work other e = other e
+answer_rowless (Ok _) t stamp flow side work other e = omega arith
+answer_rowless (Err why) t stamp flow side work other e = other e
 
 module _ (b : BoundedTable) (stamp : ℕ) (flow side work : List ℕ) where
   -- nor is that of a table with a minimum above 0.
   bounding_rowless : (v : Verdict) (l : SignedLeft) → Rowless v → BoundingAs v b stamp flow side work l → l.answer.refusal ≡ 2 → ⊥
-  bounding_rowless Fine l other (impossible p) e = omega arith
-  bounding_rowless Fine l other (found value flow' side' holds best) e = omega arith
-  bounding_rowless (Refused name place) l other so e = other (sym (ap (λ (x : SignedLeft). x.answer.refusal) so) ∙ e)
+  bounding_rowless (Ok _) l other (impossible p) e = omega arith
+  bounding_rowless (Ok _) l other (found value flow' side' holds best) e = omega arith
+  bounding_rowless (Err why) l other so e = other (sym (ap (λ (x : SignedLeft). x.answer.refusal) so) ∙ e)
 
   -- By whether all minimums are 0.
   by_plain : (p : Bool) (l : SignedLeft) → p ≡ plain b → Rowless (bounded_verdict b (length flow) (length side) (length work)) → SolvesAs p b stamp flow side work l

@@ -1,4 +1,5 @@
 -- What is written and solved is the smaller table, and what is left is what the call promises.
+use Rattle.std.specs.Prelude.{Ok, Err}
 use Rattle.std.proofs.Common.{◌≡◌, ℕ, suc, ◌<◌, ◌≤◌, true, cond, List, ◌++◌, length, take, drop, sym, refl, ap, ◌∙◌, append-nil, arith, drop_of_length-le, length-take-le, get_or-take, take_at, leb-true}
 use mathlib.Core.Path.{subst⁻¹}
 use Rattle.rows.specs.Row.{at_place, by_place, cleared}
@@ -6,10 +7,8 @@ use Rattle.rows.proofs.Rows.{places_same, length_places}
 use Rattle.rows.proofs.Sums.{by_test, both_true}
 use Rattle.table.specs.Table.{Table, table_of, arcs, tail, head, capacity, network_of}
 use Rattle.table.specs.Accepted.{Accepted}
-use Rattle.table.specs.Checks.{is_fine}
+use Rattle.table.specs.Checks.{is_fine, fine, refused, Verdict}
 use Rattle.table.specs.declared.Name.{Name}
-use Rattle.table.specs.declared.Verdict.{Verdict}
-use Rattle.table.specs.declared.Verdict.TheVariants.{Fine, Refused}
 use Rattle.table.proofs.Numbers.{number_positive}
 use Rattle.minimums.specs.BoundedTable.{BoundedTable}
 use Rattle.minimums.proofs.Accepting.{plain_accepts}
@@ -176,12 +175,12 @@ shrunk_reduces t ok stamp flow side work small =
 module _ (b : BoundedTable) (stamp : ℕ) (flow side work : List ℕ) (small : SmallRows) where
   module _ (v : Verdict) (checked : v ≡ reducing_verdict b (length flow) (length side) (length work) small) where
     -- Where the checks refuse, the call gives that refusal and leaves the rows.
-    pub refused_reducing : (name : Name) (place : ℕ) → v ≡ Refused name place → (r : Reduced) → r ≡ reduced_with (refusal name place) 0 0 0 0 0
+    pub refused_reducing : (name : Name) (place : ℕ) → v ≡ refused name place → (r : Reduced) → r ≡ reduced_with (refusal name place) 0 0 0 0 0
         → left_reduced r flow side work small ≡ reducing b stamp flow side work small
     unfolding reducing reducing_as
     refused_reducing name place same r f = rw (← checked, same) (ap (λ (x : Reduced). left_reduced x flow side work small) f)
 
-    module _ (fine : v ≡ Fine) where
+    module _ (fine : v ≡ fine) where
       -- Where they do not, it gives the smaller table solved.
       pub fine_reducing : (l : LeftReduced) → l ≡ shrunk b.table stamp flow side work small → l ≡ reducing b stamp flow side work small
       unfolding reducing reducing_as
@@ -206,6 +205,6 @@ module _ (b : BoundedTable) (stamp : ℕ) (flow side work : List ℕ) (small : S
       by v = reducing_as v b.table stamp flow side work small
 
       go : (v : Verdict) → v ≡ reducing_verdict b (length flow) (length side) (length work) small → Reduces b.table l
-      go Fine checked =
-          subst⁻¹ (Reduces b.table) (same ∙ ap by (sym checked)) (shrunk_reduces b.table (fine_accepted Fine checked refl) stamp flow side work small)
-      go (Refused name place) checked = absurd (number_positive name (ap (λ (x : LeftReduced). x.reduced.answer.refusal) (sym (same ∙ ap by (sym checked))) ∙ none))
+      go (Ok _) checked =
+          subst⁻¹ (Reduces b.table) (same ∙ ap by (sym checked)) (shrunk_reduces b.table (fine_accepted fine checked refl) stamp flow side work small)
+      go (Err why) checked = absurd (number_positive why.name (ap (λ (x : LeftReduced). x.reduced.answer.refusal) (sym (same ∙ ap by (sym checked))) ∙ none))

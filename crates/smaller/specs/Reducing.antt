@@ -1,10 +1,8 @@
 -- Document 02, CR 14, the call: what it answers, and what the lent rows hold afterwards.
-use Rattle.std.specs.Prelude.{ℕ, suc, ◌<◌, ◌≤◌, Bool, ◌&&◌, List, ◌++◌, length, take, drop, nat_le}
+use Rattle.std.specs.Prelude.{ℕ, suc, ◌<◌, ◌≤◌, Bool, ◌&&◌, List, ◌++◌, length, take, drop, nat_le, Ok, Err}
 use Rattle.rows.specs.Lent.{GivenRow}
 use Rattle.rows.specs.Row.{cleared}
 use Rattle.table.specs.Table.{Table, arcs}
-use Rattle.table.specs.declared.Verdict.{Verdict}
-use Rattle.table.specs.declared.Verdict.TheVariants.{Fine, Refused}
 use Rattle.minimums.specs.BoundedTable.{BoundedTable}
 use Rattle.minimums.specs.Checks.{plain_check}
 use Rattle.stamps.specs.Stamp.{raised}
@@ -16,6 +14,7 @@ use Rattle.listing.specs.Passing.{filled_with, Lists}
 use Rattle.shrinking.specs.Smaller.{OldArc, keeps_node, keeps_arc, node_origins, arc_origins, smaller, back_flow, back_side}
 use Rattle.smaller.specs.declared.Reduced.{Reduced}
 use Rattle.keeping.specs.SmallRows.{SmallRows, small_rows}
+use Rattle.table.specs.Checks.{Verdict}
 
 -- What the call returns, and what the eight rows lent to it hold afterwards.
 pub record LeftReduced : Type 0 where
@@ -71,8 +70,8 @@ reducing_verdict b flow side work small = plain_check b (has_all_room b.table fl
 
 -- A refusal leaves every lent row unchanged.
 unfoldable pub reducing_as : Verdict → Table → (stamp : ℕ) → (flow side work : List ℕ) → SmallRows → LeftReduced
-reducing_as Fine t stamp flow side work small = shrunk t stamp flow side work small
-reducing_as (Refused name place) t stamp flow side work small = left_reduced (reduced_with (refusal name place) 0 0 0 0 0) flow side work small
+reducing_as (Ok _) t stamp flow side work small = shrunk t stamp flow side work small
+reducing_as (Err why) t stamp flow side work small = left_reduced (reduced_with (refusal why.name why.place) 0 0 0 0 0) flow side work small
 
 -- Reducing a table with its stamp, with these rows lent.
 unfoldable pub reducing : BoundedTable → (stamp : ℕ) → (flow side work : List ℕ) → SmallRows → LeftReduced

@@ -7,12 +7,12 @@ use lib.ListN.{length, get_or, drop, drop_of_length-le}
 use lib.Seq.{drop-cons}
 use borrow.Author.Tests.{lt-ltb, le-ltb}
 use Rattle.table.specs.declared.Name.TheVariants.{Solution}
-use Rattle.table.specs.declared.Verdict.TheVariants.{Fine, Refused}
 use Rattle.solution.specs.Writing.{first_above}
+use Rattle.table.specs.Checks.{fine, refused}
 
 module _ (capacities flow : List ℕ) (k : ℕ) where
   -- That at k is above: it is the first from k on,
-  pub above_here : k < length capacities → k < length flow → get_or capacities k 0 < get_or flow k 0 → first_above k (drop k capacities) (drop k flow) ≡ Refused Solution k
+  pub above_here : k < length capacities → k < length flow → get_or capacities k 0 < get_or flow k 0 → first_above k (drop k capacities) (drop k flow) ≡ refused Solution k
   unfolding first_above
   above_here a b h = rw (drop-cons capacities k 0 a, drop-cons flow k 0 b, lt-ltb (get_or capacities k 0) (get_or flow k 0) h) refl
 
@@ -23,6 +23,6 @@ module _ (capacities flow : List ℕ) (k : ℕ) where
   above_later a b h = rw (add-one, drop-cons capacities k 0 a, drop-cons flow k 0 b, le-ltb (get_or capacities k 0) (get_or flow k 0) h) refl
 
   -- and past the last arc there is none.
-  pub above_end : length capacities ≤ k → first_above k (drop k capacities) (drop k flow) ≡ Fine
+  pub above_end : length capacities ≤ k → first_above k (drop k capacities) (drop k flow) ≡ fine
   unfolding first_above
   above_end h = rw (drop_of_length-le capacities h) refl

@@ -13,8 +13,6 @@ use Rattle.table.specs.Accepted.{Accepted}
 use Rattle.table.specs.Refusals.{number_of}
 use Rattle.table.specs.declared.Name.{Name}
 use Rattle.table.specs.declared.Name.TheVariants.{Solution}
-use Rattle.table.specs.declared.Verdict.{Verdict}
-use Rattle.table.specs.declared.Verdict.TheVariants.{Fine, Refused}
 use Rattle.minimums.specs.BoundedTable.{BoundedTable}
 use Rattle.intake.specs.Verdict.{text_verdict}
 use Rattle.intake.proofs.Verdicts.{text_accepts}
@@ -28,6 +26,7 @@ use Rattle.solution.specs.declared.Lines.TheVariants.{All, Stop}
 use Rattle.solution.specs.declared.ReadBack.{ReadBack}
 use Rattle.solution.specs.Reading.{left, back_with, left_by, reading_as, reading}
 use Rattle.solution.specs.Rows.{Finds}
+use Rattle.table.specs.Checks.{fine, refused, Verdict}
 
 -- A row has at most m first numbers,
 take_most : (m : ℕ) (row : List ℕ) → length (take m row) ≤ m
@@ -83,15 +82,15 @@ module _ (tails heads capacities text flow : List ℕ) (end : ℕ) (here : end �
 
 module _ (b : BoundedTable) (text flow : List ℕ) (v : Verdict) (verdict : v ≡ text_verdict b (length text) (leb (arcs b.table) (length flow))) where
   -- A refusal before the text is read.
-  pub reading_refused : (back : ReadBack) (name : Name) (place : ℕ) → v ≡ Refused name place → back ≡ back_with (number_of name) place 0 → left back flow ≡ reading b text flow
+  pub reading_refused : (back : ReadBack) (name : Name) (place : ℕ) → v ≡ refused name place → back ≡ back_with (number_of name) place 0 → left back flow ≡ reading b text flow
   unfolding reading reading_as
   reading_refused back name place e f = rw (← verdict, e, f) refl
 
   -- None.
-  pub reading_fine : v ≡ Fine → left_by (text_words b.table.tails b.table.heads b.table.capacities text) flow ≡ reading b text flow
+  pub reading_fine : v ≡ fine → left_by (text_words b.table.tails b.table.heads b.table.capacities text) flow ≡ reading b text flow
   unfolding reading reading_as
   reading_fine e = rw (← verdict, e) refl
 
   -- The table is accepted then, with room for its flows.
-  pub reading_accepts : v ≡ Fine → Accepted b.table × (arcs b.table ≤ length flow)
+  pub reading_accepts : v ≡ fine → Accepted b.table × (arcs b.table ≤ length flow)
   reading_accepts e = let (ok, room) = text_accepts b _ _ v verdict e in (ok, leb-true _ _ room)

@@ -10,12 +10,10 @@ use borrow.Author.Tests.{lt-ltb, le-ltb, ltb-false, le-leb, lt-leb, leb-true, no
 use Rattle.rows.proofs.Sums.{both_true}
 use Rattle.table.specs.Table.{Table, arcs}
 use Rattle.table.specs.Accepted.{Accepted}
-use Rattle.table.specs.Checks.{is_fine, refuse_if}
+use Rattle.table.specs.Checks.{is_fine, refuse_if, fine, refused, Verdict}
 use Rattle.table.specs.Refusals.{number_of}
 use Rattle.table.specs.declared.Name.{Name}
 use Rattle.table.specs.declared.Name.TheVariants.{Room, Solution}
-use Rattle.table.specs.declared.Verdict.{Verdict}
-use Rattle.table.specs.declared.Verdict.TheVariants.{Fine, Refused}
 use Rattle.table.proofs.Accepts.{both_fine}
 use Rattle.table.proofs.Faults.{passed}
 use Rattle.minimums.specs.BoundedTable.{BoundedTable}
@@ -54,7 +52,7 @@ module _ (b : BoundedTable) (value : ℕ) (flow : List ℕ) (text : ℕ) {found 
   verdict_table e = refuses_first checked (refuse_if (not (has_text_room b.table value flow text)) Room 0 (numbers_verdict b.table.capacities value flow)) e
 
   -- or there is no room,
-  pub verdict_room : is_fine found ≡ true → {z : Bool} → z ≡ has_text_room b.table value flow text → z ≡ false → Refused Room 0 ≡ writing_verdict b value flow text
+  pub verdict_room : is_fine found ≡ true → {z : Bool} → z ≡ has_text_room b.table value flow text → z ≡ false → refused Room 0 ≡ writing_verdict b value flow text
   unfolding writing_verdict
   verdict_room e is short = gives_way checked e (no_room is short (numbers_verdict b.table.capacities value flow))
 
@@ -76,12 +74,12 @@ module _ (capacities : List ℕ) (value : ℕ) (flow : List ℕ) {above : Verdic
   numbers_flow e = refuses_first looked _ e
 
   -- or a value that is too large,
-  pub numbers_value : is_fine above ≡ true → most_value < value → Refused Solution (length capacities) ≡ numbers_verdict capacities value flow
+  pub numbers_value : is_fine above ≡ true → most_value < value → refused Solution (length capacities) ≡ numbers_verdict capacities value flow
   unfolding numbers_verdict
   numbers_value e h = gives_way looked e (rw (lt-ltb most_value value h) refl)
 
   -- or neither.
-  pub numbers_fine : is_fine above ≡ true → value ≤ most_value → Fine ≡ numbers_verdict capacities value flow
+  pub numbers_fine : is_fine above ≡ true → value ≤ most_value → fine ≡ numbers_verdict capacities value flow
   unfolding numbers_verdict
   numbers_fine e h = gives_way looked e (rw (le-ltb most_value value h) refl)
 
@@ -101,7 +99,7 @@ pub record Writes (b : BoundedTable) (value : ℕ) (flow : List ℕ) (text : ℕ
   pub value_fits : value ≤ most_value
 
 -- It is all that is asked.
-pub writes_fine : (b : BoundedTable) (value : ℕ) (flow : List ℕ) (text : ℕ) (v : Verdict) → v ≡ writing_verdict b value flow text → v ≡ Fine → Writes b value flow text
+pub writes_fine : (b : BoundedTable) (value : ℕ) (flow : List ℕ) (text : ℕ) (v : Verdict) → v ≡ writing_verdict b value flow text → v ≡ fine → Writes b value flow text
 unfolding writing_verdict numbers_verdict has_text_room
 writes_fine b value flow text v e f =
     let (table, more) = both_fine (plain_check b true) _ (ap is_fine (sym e ∙ f)) in
@@ -119,13 +117,13 @@ writes_fine b value flow text v e f =
 
 module _ (b : BoundedTable) (value : ℕ) (flow text : List ℕ) (v : Verdict) (verdict : v ≡ writing_verdict b value flow (length text)) where
   -- A refusal leaves the row as it was,
-  pub writing_refused : (written : Written) (name : Name) (place : ℕ) → v ≡ Refused name place → written ≡ written_with (number_of name) place 0
+  pub writing_refused : (written : Written) (name : Name) (place : ℕ) → v ≡ refused name place → written ≡ written_with (number_of name) place 0
       → left written text ≡ writing b value flow text
   unfolding writing writing_as
   writing_refused written name place e w = rw (← verdict, e, w) refl
 
   -- and else the text stands at its front.
-  pub writing_fine : (lines end : ℕ) (first text' : List ℕ) → v ≡ Fine → Wrote text 0 (line_of value_front value) first lines
+  pub writing_fine : (lines end : ℕ) (first text' : List ℕ) → v ≡ fine → Wrote text 0 (line_of value_front value) first lines
       → Wrote first lines (flow_lines b.table.tails b.table.heads flow) text' end → left (written_with 0 0 end) text' ≡ writing b value flow text
   unfolding writing writing_as solution_text
   writing_fine lines end first text' e p q =

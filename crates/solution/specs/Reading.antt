@@ -1,15 +1,14 @@
 -- Document 02, CR 1: what reading a solution text back against its table returns, and what the lent flow row holds afterwards.
-use Rattle.std.specs.Prelude.{ℕ, List, ◌++◌, leb, length, drop}
+use Rattle.std.specs.Prelude.{ℕ, List, ◌++◌, leb, length, drop, Ok, Err}
 use Rattle.table.specs.Table.{Table, arcs}
 use Rattle.table.specs.Refusals.{number_of}
 use Rattle.table.specs.declared.Name.{Name}
 use Rattle.table.specs.declared.Name.TheVariants.{Solution}
-use Rattle.table.specs.declared.Verdict.{Verdict}
-use Rattle.table.specs.declared.Verdict.TheVariants.{Fine, Refused}
 use Rattle.minimums.specs.BoundedTable.{BoundedTable}
 use Rattle.intake.specs.Verdict.{text_verdict}
 use Rattle.wording.specs.Lines.{Words, words, stop, text_words}
 use Rattle.solution.specs.declared.ReadBack.{ReadBack}
+use Rattle.table.specs.Checks.{Verdict}
 
 -- What the call returns, and what the flow row holds afterwards.
 pub record Left : Type 0 where
@@ -35,8 +34,8 @@ left_by (stop line) flow = refusing Solution line flow
 
 -- A refusal, or what the text says.
 unfoldable pub reading_as : Verdict → Table → (text flow : List ℕ) → Left
-reading_as Fine t text flow = left_by (text_words t.tails t.heads t.capacities text) flow
-reading_as (Refused name place) t text flow = refusing name place flow
+reading_as (Ok _) t text flow = left_by (text_words t.tails t.heads t.capacities text) flow
+reading_as (Err why) t text flow = refusing why.name why.place flow
 
 -- Reading a text back against its table into this flow row, which has room for m flows.
 unfoldable pub reading : BoundedTable → (text flow : List ℕ) → Left

@@ -1,11 +1,9 @@
 -- Document 02, CR 1: what writing a solution returns, and what the lent text row holds afterwards.
-use Rattle.std.specs.Prelude.{ℕ, suc, Bool, true, not, ◌&&◌, List, [], ◌∷◌, ◌++◌, ltb, leb, length, drop}
+use Rattle.std.specs.Prelude.{ℕ, suc, Bool, true, not, ◌&&◌, List, [], ◌∷◌, ◌++◌, ltb, leb, length, drop, Ok, Err}
 use Rattle.table.specs.Table.{Table, arcs}
-use Rattle.table.specs.Checks.{refuse_if, or_else}
+use Rattle.table.specs.Checks.{refuse_if, or_else, fine, Verdict}
 use Rattle.table.specs.Refusals.{number_of}
 use Rattle.table.specs.declared.Name.TheVariants.{Room, Solution}
-use Rattle.table.specs.declared.Verdict.{Verdict}
-use Rattle.table.specs.declared.Verdict.TheVariants.{Fine, Refused}
 use Rattle.minimums.specs.BoundedTable.{BoundedTable}
 use Rattle.minimums.specs.Checks.{plain_check}
 use Rattle.wording.specs.Text.{solution_text, most_value}
@@ -30,14 +28,14 @@ has_text_room t value flow text = leb (arcs t) (length flow) && leb (length (sol
 
 -- SOLUTION at the first flow above its capacity, of arcs whose places start at `place`.
 unfoldable pub first_above : (place : ℕ) (capacities flow : List ℕ) → Verdict
-first_above place [] flow = Fine
-first_above place (c ∷ cs) [] = Fine
+first_above place [] flow = fine
+first_above place (c ∷ cs) [] = fine
 first_above place (c ∷ cs) (f ∷ fs) = refuse_if (ltb c f) Solution place (first_above (suc place) cs fs)
 
 -- SOLUTION: at the first flow above its capacity, or at m for a value above 4,096,000,000.
 unfoldable pub numbers_verdict : (capacities : List ℕ) (value : ℕ) (flow : List ℕ) → Verdict
 numbers_verdict capacities value flow =
-    or_else (first_above 0 capacities flow) (refuse_if (ltb most_value value) Solution (length capacities) Fine)
+    or_else (first_above 0 capacities flow) (refuse_if (ltb most_value value) Solution (length capacities) fine)
 
 -- The order: the table's own checks with BOUNDED, ROOM, SOLUTION.
 unfoldable pub writing_verdict : BoundedTable → (value : ℕ) (flow : List ℕ) (text : ℕ) → Verdict
@@ -47,9 +45,9 @@ writing_verdict b value flow text =
 
 -- The text stands at the front of its row and the rest is unchanged; a refusal leaves the row unchanged.
 unfoldable pub writing_as : Verdict → Table → (value : ℕ) (flow text : List ℕ) → Left
-writing_as Fine t value flow text =
+writing_as (Ok _) t value flow text =
     left (written_with 0 0 (length (solution_text t value flow))) (solution_text t value flow ++ drop (length (solution_text t value flow)) text)
-writing_as (Refused name place) t value flow text = left (written_with (number_of name) place 0) text
+writing_as (Err why) t value flow text = left (written_with (number_of why.name) why.place 0) text
 
 -- Writing the solution of a table with this value and flow row into this text row.
 unfoldable pub writing : BoundedTable → (value : ℕ) (flow text : List ℕ) → Left

@@ -1,4 +1,5 @@
 -- From the checks to an accepted table, and from the parts of an answer to what solving promises.
+use Rattle.std.specs.Prelude.{Ok, Err}
 use Prim.Native.Nat.{ℕ, ◌≤◌}
 use mathlib.Core.Path.{◌≡◌, refl, sym, ap, ◌∙◌, subst}
 use mathlib.Core.List.{List, ◌++◌, append-nil}
@@ -12,11 +13,9 @@ use lib.Seq.{sets, take_at, length-take-le}
 use Rattle.rows.specs.Row.{at_place, cleared}
 use Rattle.network.specs.Network.{inflow, outflow}
 use Rattle.table.specs.Table.{Table, arcs, network_of}
-use Rattle.table.specs.Checks.{is_fine}
+use Rattle.table.specs.Checks.{is_fine, fine, refused, Verdict}
 use Rattle.table.specs.Accepted.{Accepted}
 use Rattle.table.specs.declared.Name.{Name}
-use Rattle.table.specs.declared.Verdict.{Verdict}
-use Rattle.table.specs.declared.Verdict.TheVariants.{Fine, Refused}
 use Rattle.table.proofs.Numbers.{number_positive}
 use Rattle.table.proofs.Accepts.{check_accepts}
 use Rattle.reach.specs.Side.{side_of}
@@ -139,22 +138,22 @@ front_stored row from after k l room e =
 
 module _ (t : Table) (stamp : ℕ) (flow side work : List ℕ) (v : Verdict) (found : v ≡ solving_verdict t (length flow) (length side) (length work)) where
   -- Where the checks refuse, solving gives that refusal and leaves the rows.
-  pub refused_solving : (name : Name) (place : ℕ) → v ≡ Refused name place → (r : Answer) → r ≡ refusal name place
+  pub refused_solving : (name : Name) (place : ℕ) → v ≡ refused name place → (r : Answer) → r ≡ refusal name place
       → left r flow side work ≡ solving t stamp flow side work
   unfolding solving solving_as
   refused_solving name place e r f = rw (← found, e) (ap (λ (a : Answer). left a flow side work) f)
 
   -- Where they do not, it gives the solved table.
-  pub fine_solving : v ≡ Fine → (l : Left) → l ≡ solved t stamp flow side work → l ≡ solving t stamp flow side work
+  pub fine_solving : v ≡ fine → (l : Left) → l ≡ solved t stamp flow side work → l ≡ solving t stamp flow side work
   unfolding solving solving_as
   fine_solving e l f = rw (← found, e) f
 
   -- A table that passes is accepted,
-  pub fine_accepted : v ≡ Fine → Accepted t
+  pub fine_accepted : v ≡ fine → Accepted t
   fine_accepted e = (check_accepts t (has_room t.nodes (arcs t) (length flow) (length side) (length work)) (ap is_fine (sym found ∙ e))).0
 
   -- and the rows have room.
-  pub fine_roomy : v ≡ Fine → Roomy t.nodes (arcs t) (length flow) (length side) (length work)
+  pub fine_roomy : v ≡ fine → Roomy t.nodes (arcs t) (length flow) (length side) (length work)
   fine_roomy e =
       room_roomy _ _ _ _ _ (check_accepts t (has_room t.nodes (arcs t) (length flow) (length side) (length work)) (ap is_fine (sym found ∙ e))).1
 
@@ -179,8 +178,8 @@ pub solving_meets : (t : Table) (stamp : ℕ) (flow side work : List ℕ) (l : L
 solving_meets t stamp flow side work l same none = go (solving_verdict t (length flow) (length side) (length work)) refl
   where
     go : (v : Verdict) → v ≡ solving_verdict t (length flow) (length side) (length work) → Meets t l
-    go Fine e =
-        subst (Meets t) (fine_solving t stamp flow side work Fine e refl (solved t stamp flow side work) refl ∙ sym same)
-        (solved_meets t stamp flow side work (fine_accepted t stamp flow side work Fine e refl))
-    go (Refused name place) e =
-        absurd (number_positive name (ap (λ (x : Left). x.answer.refusal) (refused_solving t stamp flow side work (Refused name place) e name place refl (refusal name place) refl ∙ sym same) ∙ none))
+    go (Ok _) e =
+        subst (Meets t) (fine_solving t stamp flow side work fine e refl (solved t stamp flow side work) refl ∙ sym same)
+        (solved_meets t stamp flow side work (fine_accepted t stamp flow side work fine e refl))
+    go (Err why) e =
+        absurd (number_positive why.name (ap (λ (x : Left). x.answer.refusal) (refused_solving t stamp flow side work (refused why.name why.place) e why.name why.place refl (refusal why.name why.place) refl ∙ sym same) ∙ none))

@@ -1,4 +1,5 @@
 -- A text that is read gives a table that no check refuses, with m arcs.
+use Rattle.std.specs.Prelude.{Ok, Err}
 use Prim.Native.Nat.{ℕ}
 use mathlib.Core.Path.{◌≡◌, refl, ap, subst}
 use mathlib.Core.Bool.{Bool, true, false, cond}
@@ -6,9 +7,7 @@ use mathlib.Core.List.{List}
 use lib.Dec.{ltb}
 use lib.ListN.{length}
 use Rattle.table.specs.declared.Name.TheVariants.{Long}
-use Rattle.table.specs.declared.Verdict.{Verdict}
-use Rattle.table.specs.declared.Verdict.TheVariants.{Fine, Refused}
-use Rattle.table.specs.Checks.{is_fine}
+use Rattle.table.specs.Checks.{is_fine, fine, Verdict}
 use Rattle.minimums.specs.Checks.{bounded_check}
 use Rattle.minimums.proofs.Faults.{bounded_accepts}
 use Rattle.scan.specs.Parts.{lines}
@@ -36,11 +35,11 @@ module _ (text : List ℕ) (tails heads capacities minimums : ℕ) where
   by_verdict : (p : Progress) → length (arcs_of (lines text)) ≡ p.m → (v : Verdict) → table_verdict (lines text) p tails heads capacities minimums ≡ v
       → AcceptsAs text (given_as v p)
   unfolding given_as table_verdict
-  by_verdict p count Fine e =
+  by_verdict p count (Ok _) e =
       let fine : is_fine (bounded_check (table_in (lines text) p.n p.s p.t) (has_arc_room p.m tails heads capacities minimums)) ≡ true = ap is_fine e in
       let room = (bounded_accepts (table_in (lines text) p.n p.s p.t) (has_arc_room p.m tails heads capacities minimums) fine).1 in
       record { count = count; passes = subst (λ (b : Bool). is_fine (bounded_check (table_in (lines text) p.n p.s p.t) b) ≡ true) room fine }
-  by_verdict p count (Refused name place) e = tt
+  by_verdict p count (Err why) e = tt
 
   -- It says so by what the lines give.
   by_judging : (j : Judged) → judge (lines text) fresh 1 ≡ j → AcceptsAs text (after_judging (lines text) j tails heads capacities minimums)

@@ -1,4 +1,5 @@
 -- Reading a text never gives ROWS, number 2: its lines are refused as LINE or COUNT, and its arcs give rows of one length.
+use Rattle.std.specs.Prelude.{Ok, Err}
 use Prim.Native.Nat.{ℕ, suc}
 use mathlib.Core.Path.{◌≡◌}
 use mathlib.Core.Bool.{Bool, true, false, cond, not, ◌&&◌}
@@ -7,8 +8,6 @@ use native.Mathlib.Omega.{arith}
 use lib.Dec.{eqb, ltb}
 use lib.ListN.{length}
 use Rattle.table.specs.declared.Name.TheVariants.{Long}
-use Rattle.table.specs.declared.Verdict.{Verdict}
-use Rattle.table.specs.declared.Verdict.TheVariants.{Fine, Refused}
 use Rattle.table.specs.Refusals.{number_of}
 use Rattle.minimums.proofs.Rowless.{Rowless, records_rowless}
 use Rattle.scan.specs.Parts.{lines}
@@ -22,6 +21,7 @@ use Rattle.text.specs.declared.Judged.TheVariants.{Table, Fault}
 use Rattle.text.specs.declared.Given.TheVariants.{Refusal}
 use Rattle.text.specs.Lines.{kind_of, problem_step, source_step, sink_step, arc_step, step_of, end_step, onwards, judge, fresh, arcs_of}
 use Rattle.text.specs.Reading.{has_arc_room, table_verdict, given_as, after_judging, given_by, values_of}
+use Rattle.table.specs.Checks.{Verdict}
 
 -- The number of the refusal that a line's step gives, 0 where it goes on,
 abbrev step_in : Step → ℕ
@@ -76,8 +76,8 @@ judge_rowless (line ∷ rest) p place = onwards_rowless (step_of p (kind_of line
 -- What reading returns by the table's verdict.
 given_rowless : (v : Verdict) (p : Progress) → Rowless v → (values_of (given_as v p)).refusal ≡ 2 → ⊥
 unfolding given_as values_of
-given_rowless Fine p other e = omega arith
-given_rowless (Refused name place) p other e = other e
+given_rowless (Ok _) p other e = omega arith
+given_rowless (Err why) p other e = other e
 
 -- What reading returns after the lines were judged.
 judged_rowless : (ls : List (List ℕ)) (j : Judged) (tails heads capacities minimums : ℕ) → (fault_in j ≡ 2 → ⊥) → (values_of (after_judging ls j tails heads capacities minimums)).refusal ≡ 2 → ⊥

@@ -1,4 +1,5 @@
 -- The server's answers are those of the public calls; and arc bytes are ROWS, number 2, exactly where they are no multiple of 12.
+use Rattle.std.specs.Prelude.{Ok, Err}
 use Prim.Native.Nat.{ℕ, suc, ◌/◌, ◌%◌, ◌^◌}
 use mathlib.Core.Path.{◌≡◌, refl, sym, ap, subst, ◌∙◌}
 use mathlib.Core.Bool.{Bool, true, false, not, ◌||◌}
@@ -8,12 +9,10 @@ use borrow.Author.Tests.{eq-eqb, ne_eqb}
 use lib.Dec.{eqb, ltb}
 use lib.ListN.{length}
 use Rattle.table.specs.Table.{Table, arcs}
-use Rattle.table.specs.Checks.{refuse_if, outside, differ, bad_ends, sizes_of, arc_fault, or_else, first_fault, in_order, check_of}
+use Rattle.table.specs.Checks.{refuse_if, outside, differ, bad_ends, sizes_of, arc_fault, or_else, first_fault, in_order, check_of, fine, Verdict}
 use Rattle.table.specs.Refusals.{number_of, refusal_in, place_in}
 use Rattle.table.specs.declared.Name.{Name}
 use Rattle.table.specs.declared.Name.TheVariants.{Nodes, Rows, Arcs, Ends, Room, Node, Loop, Capacity}
-use Rattle.table.specs.declared.Verdict.{Verdict}
-use Rattle.table.specs.declared.Verdict.TheVariants.{Fine, Refused}
 use Rattle.table.proofs.Numbers.{number_positive}
 use Rattle.solver.specs.Solving.{Left, has_room, answer_with, solved, solving_as, solving}
 use Rattle.planner.specs.Solving.{SignedLeft, left_with_sign, SolvesAs, Solves}
@@ -50,8 +49,8 @@ unless false name place next other rest = rest
 -- One such verdict before another.
 either : (v next : Verdict) → NotRows v → NotRows next → NotRows (or_else v next)
 unfolding or_else
-either Fine next first rest = rest
-either (Refused name place) next first rest = first
+either (Ok _) next first rest = rest
+either (Err why) next first rest = first
 
 -- Sizes whose three lengths are the same.
 sizes_other : (n tails heads capacities s t : ℕ) → tails ≡ heads → tails ≡ capacities → NotRows (sizes_of n tails heads capacities s t)
@@ -60,7 +59,7 @@ sizes_other n tails heads capacities s t e f =
     rw (eq-eqb tails heads e, eq-eqb tails capacities f)
     (unless (outside 2 512 n) Nodes 0 _ (λ h. omega arith)
     (unless (ltb 4096 tails) Arcs 0 _ (λ h. omega arith)
-    (unless (bad_ends n s t) Ends 0 Fine (λ h. omega arith) (λ h. omega arith))))
+    (unless (bad_ends n s t) Ends 0 fine (λ h. omega arith) (λ h. omega arith))))
 
 -- The first arc with a fault.
 faults_other : (n place : ℕ) (ts hs cs : List ℕ) → NotRows (first_fault n place ts hs cs)
@@ -72,7 +71,7 @@ faults_other n place (t ∷ ts) (h ∷ hs) (c ∷ cs) =
     either (arc_fault n place t h c) _
     (unless (outside 1 n t || outside 1 n h) Node place _ (λ e. omega arith)
     (unless (eqb t h) Loop place _ (λ e. omega arith)
-    (unless (ltb 1000000 c) Capacity place Fine (λ e. omega arith) (λ e. omega arith))))
+    (unless (ltb 1000000 c) Capacity place fine (λ e. omega arith) (λ e. omega arith))))
     (faults_other n (suc place) ts hs cs)
 
 -- The checks of rows of one length.
@@ -90,8 +89,8 @@ unfolding serving solving_as served_as solved answer_with
 returned_is t stamp flow side result = go (serving_verdict t flow side result)
   where
     go : (v : Verdict) → (served_as t.nodes (arcs t) (solving_as v t stamp [] [] []) flow side result).returned ≡ returned_of (refusal_in v) (place_in v)
-    go Fine = refl
-    go (Refused name place) = rw (ne_eqb (number_of name) 0 (number_positive name))
+    go (Ok _) = refl
+    go (Err why) = rw (ne_eqb (number_of why.name) 0 (number_positive why.name))
 
 module _ (n s t : ℕ) (bytes : List ℕ) (stamp : ℕ) (flow side result : List ℕ) where
   -- A multiple of 12 is never ROWS:

@@ -11,11 +11,9 @@ use Rattle.rows.specs.Row.{by_place}
 use Rattle.rows.proofs.Rows.{length_places}
 use Rattle.rows.proofs.Sums.{both_true}
 use Rattle.table.specs.Table.{Table, table_of}
-use Rattle.table.specs.Checks.{is_fine, outside, differ, sizes_of, or_else, in_order, check_of}
+use Rattle.table.specs.Checks.{is_fine, outside, differ, sizes_of, or_else, in_order, check_of, fine, refused, Verdict}
 use Rattle.table.specs.declared.Name.{Name}
 use Rattle.table.specs.declared.Name.TheVariants.{Rows, Room}
-use Rattle.table.specs.declared.Verdict.{Verdict}
-use Rattle.table.specs.declared.Verdict.TheVariants.{Fine, Refused}
 use Rattle.table.proofs.Accepts.{sizes_fine}
 use Rattle.little.specs.Little.{number32}
 use Rattle.wire.specs.Rows.{arc_row, arc_table, returned_of, has_byte_room}
@@ -28,7 +26,7 @@ pub record Sized (n tails heads capacities : ℕ) : Type 0 where
   pub heads_same : heads ≡ capacities
 
 -- Sizes that are not refused are within them.
-pub sized : (n tails heads capacities s t : ℕ) → sizes_of n tails heads capacities s t ≡ Fine → Sized n tails heads capacities
+pub sized : (n tails heads capacities s t : ℕ) → sizes_of n tails heads capacities s t ≡ fine → Sized n tails heads capacities
 sized n tails heads capacities s t e =
     let good = sizes_fine n tails heads capacities s t (ap is_fine e) in
     record {
@@ -43,12 +41,12 @@ abbrev pub sizes : Table → Verdict
 sizes t = sizes_of t.nodes (length t.tails) (length t.heads) (length t.capacities) t.source t.sink
 
 -- A refusal of sizes comes before all others.
-pub sizes_first : (t : Table) (room : Bool) (name : Name) (place : ℕ) → sizes t ≡ Refused name place → check_of t room ≡ Refused name place
+pub sizes_first : (t : Table) (room : Bool) (name : Name) (place : ℕ) → sizes t ≡ refused name place → check_of t room ≡ refused name place
 unfolding in_order or_else
 sizes_first t room name place e = rw e
 
 -- ROOM comes next.
-pub room_next : (t : Table) (room : Bool) → sizes t ≡ Fine → room ≡ false → check_of t room ≡ Refused Room 0
+pub room_next : (t : Table) (room : Bool) → sizes t ≡ fine → room ≡ false → check_of t room ≡ refused Room 0
 unfolding in_order or_else
 room_next t room e f = rw (e, f)
 
@@ -64,7 +62,7 @@ arc_sizes n s t bytes =
     rw (arc_length 0 ((length bytes + 11) / 12) bytes, arc_length 4 (length bytes / 12) bytes, arc_length 8 (length bytes / 12) bytes)
 
 -- A length that is no multiple of 12 is ROWS, right after NODES;
-pub broken_is_rows : (n s t : ℕ) (bytes : List ℕ) → outside 2 512 n ≡ false → (length bytes % 12 ≡ 0 → ⊥) → sizes (arc_table n s t bytes) ≡ Refused Rows 0
+pub broken_is_rows : (n s t : ℕ) (bytes : List ℕ) → outside 2 512 n ≡ false → (length bytes % 12 ≡ 0 → ⊥) → sizes (arc_table n s t bytes) ≡ refused Rows 0
 unfolding sizes_of differ
 broken_is_rows n s t bytes nodes broken =
     let apart : (length bytes + 11) / 12 ≡ length bytes / 12 → ⊥ = λ e. broken (omega arith) in

@@ -8,11 +8,10 @@ use borrow.Author.Tests.{eq-eqb, ne_eqb, le-leb}
 use lib.ListN.{length, take, drop, replicate, length-replicate}
 use Rattle.rows.proofs.Rows.{length_places, zeros_taken}
 use Rattle.table.specs.Table.{Table, arcs}
-use Rattle.table.specs.Checks.{or_else, check_of}
+use Rattle.table.specs.Checks.{or_else, check_of, fine, refused}
 use Rattle.table.specs.Refusals.{number_of}
 use Rattle.table.specs.declared.Name.{Name}
 use Rattle.table.specs.declared.Name.TheVariants.{Room}
-use Rattle.table.specs.declared.Verdict.TheVariants.{Fine, Refused}
 use Rattle.table.proofs.Numbers.{number_positive}
 use Rattle.minimums.specs.Checks.{bounded_check, with_minimums, all_zero, plain}
 use Rattle.minimums.proofs.Accepting.{plain_check_lem}
@@ -60,17 +59,17 @@ three_are r x y z p q e = rw (p, q, e)
 
 module _ (t : Table) (stamp answer : ℕ) (flow side : List ℕ) (place : ℕ) (result : List ℕ) where
   -- Where the table's checks refuse, that is the answer.
-  refuses : (name : Name) (at : ℕ) → check_of t (has_byte_room 24 t.nodes (arcs t) (length flow) (length side) (length result)) ≡ Refused name at
+  refuses : (name : Name) (at : ℕ) → check_of t (has_byte_room 24 t.nodes (arcs t) (length flow) (length side) (length result)) ≡ refused name at
       → {x : ℕ} → x ≡ returned_of (number_of name) at → told x result ≡ telling t stamp answer flow side place result
   unfolding telling reading_as told_as or_else
   refuses name at e f = rw (e, ne_eqb (number_of name) 0 (number_positive name)) (ap (λ (x : ℕ). told x result) f)
 
   -- A refusal of sizes,
-  pub tells_sizes : (name : Name) (at : ℕ) → sizes t ≡ Refused name at → {x : ℕ} → x ≡ returned_of (number_of name) at → told x result ≡ telling t stamp answer flow side place result
+  pub tells_sizes : (name : Name) (at : ℕ) → sizes t ≡ refused name at → {x : ℕ} → x ≡ returned_of (number_of name) at → told x result ≡ telling t stamp answer flow side place result
   tells_sizes name at e f = refuses name at (sizes_first t _ name at e) f
 
   -- and ROOM.
-  pub tells_no_room : sizes t ≡ Fine → {m : ℕ} → m ≡ arcs t → {b : Bool} → b ≡ has_byte_room 24 t.nodes m (length flow) (length side) (length result) → b ≡ false
+  pub tells_no_room : sizes t ≡ fine → {m : ℕ} → m ≡ arcs t → {b : Bool} → b ≡ has_byte_room 24 t.nodes m (length flow) (length side) (length result) → b ≡ false
       → {x : ℕ} → x ≡ returned_of (number_of Room) 0 → told x result ≡ telling t stamp answer flow side place result
   tells_no_room e same is none f =
       refuses Room 0 (room_next t _ e (ap (λ (m : ℕ). has_byte_room 24 t.nodes m (length flow) (length side) (length result)) (sym same) ∙ sym is ∙ none)) f

@@ -2,8 +2,7 @@
 use Rattle.std.specs.Prelude.{ℕ, cond, List, [], ◌∷◌, ◌++◌, eqb, length, drop}
 use Rattle.little.specs.Little.{bytes_of_all}
 use Rattle.table.specs.Table.{Table, arcs}
-use Rattle.table.specs.Checks.{or_else, check_of}
-use Rattle.table.specs.declared.Verdict.{Verdict}
+use Rattle.table.specs.Checks.{or_else, check_of, Verdict}
 use Rattle.stamps.specs.Stamp.{behind, relation_at}
 use Rattle.planner.specs.declared.Reading.{Reading}
 use Rattle.planner.specs.Reading.{read_at, stamp_verdict, place_verdict, reading_as}

@@ -3,8 +3,7 @@ use Rattle.std.specs.Prelude.{ℕ, ◌*◌, cond, List, [], ◌∷◌, ◌++◌,
 use Rattle.rows.specs.Lent.{LentRow}
 use Rattle.little.specs.Little.{bytes_of_all}
 use Rattle.table.specs.Table.{Table, arcs}
-use Rattle.table.specs.Checks.{check_of}
-use Rattle.table.specs.declared.Verdict.{Verdict}
+use Rattle.table.specs.Checks.{check_of, Verdict}
 use Rattle.solver.specs.declared.Answer.{Answer}
 use Rattle.solver.specs.Solving.{Left, solving_as}
 use Rattle.wire.specs.Rows.{returned_of, has_byte_room}

@@ -6,10 +6,10 @@ use Rattle.wire.proofs.Telling.{tells_sizes}
 use Rattle.booking.proofs.read_bytes.Goals as goal
 
 pub tell_arcs-requires : goal.tell_arcs-requires
-tell_arcs-requires c = sym c.sizes.ensures ∙ c.in-Fine.is
+tell_arcs-requires c = sym c.sizes.ensures ∙ c.in-Ok.is
 
-pub returns-in-Refused : goal.returns-in-Refused
-returns-in-Refused c =
+pub returns-in-Err : goal.returns-in-Err
+returns-in-Err c =
     let given = c.args in
     tells_sizes (arc_table given.n given.s given.t given.arcs.now) given.stamp given.answer given.flow.now given.side.now given.place given.res.now _ _
-    (sym (arc_sizes given.n given.s given.t given.arcs.now) ∙ sym c.sizes.ensures ∙ c.in-Refused.is) c.refused.ensures
+    (sym (arc_sizes given.n given.s given.t given.arcs.now) ∙ sym c.sizes.ensures ∙ c.in-Err.is) c.refused.ensures

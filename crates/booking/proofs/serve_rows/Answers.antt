@@ -10,11 +10,11 @@ pub serve_accepted-requires : goal.serve_accepted-requires
 serve_accepted-requires c =
     let table : Table = table_of c.args.n c.args.s c.args.t c.args.tails.now c.args.heads.now c.args.capacities.now in
     let found : c.check.result ≡ serving_verdict table c.args.flow.now c.args.side.now c.args.res.now = c.check.ensures ∙ ap (check_of table) c.has_byte_room-room.ensures in
-    sym found ∙ c.in-Fine.is
+    sym found ∙ c.in-Ok.is
 
-pub returns-in-Refused : goal.returns-in-Refused
-returns-in-Refused c =
+pub returns-in-Err : goal.returns-in-Err
+returns-in-Err c =
     let table : Table = table_of c.args.n c.args.s c.args.t c.args.tails.now c.args.heads.now c.args.capacities.now in
     let found : c.check.result ≡ serving_verdict table c.args.flow.now c.args.side.now c.args.res.now = c.check.ensures ∙ ap (check_of table) c.has_byte_room-room.ensures in
     let given = c.args in
-    serves_refusal table given.stamp given.flow.now given.side.now given.res.now _ _ (sym found ∙ c.in-Refused.is) c.refused.ensures
+    serves_refusal table given.stamp given.flow.now given.side.now given.res.now _ _ (sym found ∙ c.in-Err.is) c.refused.ensures

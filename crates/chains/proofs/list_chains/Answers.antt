@@ -13,31 +13,31 @@ list_table-requires c =
     let bounded : BoundedTable = bounded_of c.args.n c.args.s c.args.t c.args.tails.now c.args.heads.now c.args.capacities.now c.args.minimums.now in
     let found : c.plain_check.result ≡ plain_verdict bounded (length c.args.flow.now) (length c.args.side.now) (length c.args.work.now) = c.plain_check.ensures ∙ ap (plain_check bounded) c.has_room-room.ensures in
     let given = c.args in
-    let room = fine_roomy bounded given.stamp given.flow.now given.side.now given.work.now given.list.now _ found c.in-Fine.is in record {
-      accepted = fine_accepted bounded given.stamp given.flow.now given.side.now given.work.now given.list.now _ found c.in-Fine.is;
+    let room = fine_roomy bounded given.stamp given.flow.now given.side.now given.work.now given.list.now _ found c.in-Ok.is in record {
+      accepted = fine_accepted bounded given.stamp given.flow.now given.side.now given.work.now given.list.now _ found c.in-Ok.is;
       given_room = (room.for_flow, room.for_side, room.for_work);
     }
 
-pub returns-in-Refused : goal.returns-in-Refused
-returns-in-Refused c =
+pub returns-in-Err : goal.returns-in-Err
+returns-in-Err c =
     let bounded : BoundedTable = bounded_of c.args.n c.args.s c.args.t c.args.tails.now c.args.heads.now c.args.capacities.now c.args.minimums.now in
     let found : c.plain_check.result ≡ plain_verdict bounded (length c.args.flow.now) (length c.args.side.now) (length c.args.work.now) = c.plain_check.ensures ∙ ap (plain_check bounded) c.has_room-room.ensures in
     let whole : (l : Shown) → l ≡ listing bounded c.args.stamp c.args.flow.now c.args.side.now c.args.work.now c.args.list.now → (l ≡ listing bounded c.args.stamp c.args.flow.now c.args.side.now c.args.work.now c.args.list.now) × (l.solving.answer.refusal ≡ 0 → Shows bounded.table l) = λ l e. (e, listing_shows bounded c.args.stamp c.args.flow.now c.args.side.now c.args.work.now c.args.list.now l e) in
     let given = c.args in
     let the_facts = whole _
-    (refused_listing bounded given.stamp given.flow.now given.side.now given.work.now given.list.now _ found _ _ c.in-Refused.is c.refused.result c.refused.ensures) in record {
+    (refused_listing bounded given.stamp given.flow.now given.side.now given.work.now given.list.now _ found _ _ c.in-Err.is c.refused.result c.refused.ensures) in record {
       exact = the_facts.0;
       shows = the_facts.1;
     }
 
-pub returns-in-Fine : goal.returns-in-Fine
-returns-in-Fine c =
+pub returns-in-Ok : goal.returns-in-Ok
+returns-in-Ok c =
     let bounded : BoundedTable = bounded_of c.args.n c.args.s c.args.t c.args.tails.now c.args.heads.now c.args.capacities.now c.args.minimums.now in
     let found : c.plain_check.result ≡ plain_verdict bounded (length c.args.flow.now) (length c.args.side.now) (length c.args.work.now) = c.plain_check.ensures ∙ ap (plain_check bounded) c.has_room-room.ensures in
     let whole : (l : Shown) → l ≡ listing bounded c.args.stamp c.args.flow.now c.args.side.now c.args.work.now c.args.list.now → (l ≡ listing bounded c.args.stamp c.args.flow.now c.args.side.now c.args.work.now c.args.list.now) × (l.solving.answer.refusal ≡ 0 → Shows bounded.table l) = λ l e. (e, listing_shows bounded c.args.stamp c.args.flow.now c.args.side.now c.args.work.now c.args.list.now l e) in
     let given = c.args in
     let the_facts = whole _
-    (fine_listing bounded given.stamp given.flow.now given.side.now given.work.now given.list.now _ found c.in-Fine.is _ c.list_table.ensures) in record {
+    (fine_listing bounded given.stamp given.flow.now given.side.now given.work.now given.list.now _ found c.in-Ok.is _ c.list_table.ensures) in record {
       exact = the_facts.0;
       shows = the_facts.1;
     }

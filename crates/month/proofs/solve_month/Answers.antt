@@ -7,22 +7,22 @@ pub solve_days-requires : goal.solve_days-requires
 solve_days-requires c =
     let days : Days = days_of c.args.starts.now c.args.nodes.now c.args.sources.now c.args.sinks.now c.args.stamps.now c.args.tails.now c.args.heads.now c.args.capacities.now c.args.minimums.now in
     let given = c.args in
-    fine_is_ready days given.flow.now given.side.now given.work.now given.answers.now _ c.month_verdict.ensures c.in-Fine.is
+    fine_is_ready days given.flow.now given.side.now given.work.now given.answers.now _ c.month_verdict.ensures c.in-Ok.is
 
-pub returns-in-Refused : goal.returns-in-Refused
-returns-in-Refused c =
+pub returns-in-Err : goal.returns-in-Err
+returns-in-Err c =
     let days : Days = days_of c.args.starts.now c.args.nodes.now c.args.sources.now c.args.sinks.now c.args.stamps.now c.args.tails.now c.args.heads.now c.args.capacities.now c.args.minimums.now in
     let given = c.args in
-    let the_facts = refused_promise days given.flow.now given.side.now given.work.now given.answers.now _ c.month_verdict.ensures _ _ c.in-Refused.is c.refused_month.result c.refused_month.ensures in record {
+    let the_facts = refused_promise days given.flow.now given.side.now given.work.now given.answers.now _ c.month_verdict.ensures _ _ c.in-Err.is c.refused_month.result c.refused_month.ensures in record {
       exact = the_facts.0;
       each = the_facts.1;
     }
 
-pub returns-in-Fine : goal.returns-in-Fine
-returns-in-Fine c =
+pub returns-in-Ok : goal.returns-in-Ok
+returns-in-Ok c =
     let days : Days = days_of c.args.starts.now c.args.nodes.now c.args.sources.now c.args.sinks.now c.args.stamps.now c.args.tails.now c.args.heads.now c.args.capacities.now c.args.minimums.now in
     let given = c.args in
-    let the_facts = fine_promise days given.flow.now given.side.now given.work.now given.answers.now _ c.month_verdict.ensures c.in-Fine.is _ c.solve_days.ensures c.month_sums.result c.month_sums.ensures in record {
+    let the_facts = fine_promise days given.flow.now given.side.now given.work.now given.answers.now _ c.month_verdict.ensures c.in-Ok.is _ c.solve_days.ensures c.month_sums.result c.month_sums.ensures in record {
       exact = the_facts.0;
       each = the_facts.1;
     }

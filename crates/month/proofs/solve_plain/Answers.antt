@@ -12,22 +12,22 @@ solve_table-requires c =
     let table : BoundedTable = bounded_of c.args.n c.args.s c.args.t c.args.tails.now c.args.heads.now c.args.capacities.now c.args.minimums.now in
     let found : c.plain_check.result ≡ plain_verdict table (length c.args.flow.now) (length c.args.side.now) (length c.args.work.now) = c.plain_check.ensures ∙ ap (plain_check table) c.has_room-room.ensures in
     let given = c.args in
-    let is = sym found ∙ c.in-Fine.is in
+    let is = sym found ∙ c.in-Ok.is in
     let room = plain_roomy table given.stamp given.flow.now given.side.now given.work.now is in record {
       accepted = plain_accepted table given.stamp given.flow.now given.side.now given.work.now is;
       given_room = (room.for_flow, room.for_side, room.for_work);
     }
 
-pub returns-in-Refused : goal.returns-in-Refused
-returns-in-Refused c =
+pub returns-in-Err : goal.returns-in-Err
+returns-in-Err c =
     let table : BoundedTable = bounded_of c.args.n c.args.s c.args.t c.args.tails.now c.args.heads.now c.args.capacities.now c.args.minimums.now in
     let found : c.plain_check.result ≡ plain_verdict table (length c.args.flow.now) (length c.args.side.now) (length c.args.work.now) = c.plain_check.ensures ∙ ap (plain_check table) c.has_room-room.ensures in
     let given = c.args in
-    refused_plain table given.stamp given.flow.now given.side.now given.work.now _ _ (sym found ∙ c.in-Refused.is) c.refused.ensures
+    refused_plain table given.stamp given.flow.now given.side.now given.work.now _ _ (sym found ∙ c.in-Err.is) c.refused.ensures
 
-pub returns-in-Fine : goal.returns-in-Fine
-returns-in-Fine c =
+pub returns-in-Ok : goal.returns-in-Ok
+returns-in-Ok c =
     let table : BoundedTable = bounded_of c.args.n c.args.s c.args.t c.args.tails.now c.args.heads.now c.args.capacities.now c.args.minimums.now in
     let found : c.plain_check.result ≡ plain_verdict table (length c.args.flow.now) (length c.args.side.now) (length c.args.work.now) = c.plain_check.ensures ∙ ap (plain_check table) c.has_room-room.ensures in
     let given = c.args in
-    fine_plain table given.stamp given.flow.now given.side.now given.work.now (sym found ∙ c.in-Fine.is) c.solve_table.ensures
+    fine_plain table given.stamp given.flow.now given.side.now given.work.now (sym found ∙ c.in-Ok.is) c.solve_table.ensures

@@ -13,32 +13,32 @@ open_accepted-requires c =
     let table : BoundedTable = bounded_of c.args.n c.args.s c.args.t c.args.tails.now c.args.heads.now c.args.capacities.now c.args.minimums.now in
     let found : c.plain_check.result ≡ plain_check table (has_room c.args.n (length c.args.capacities.now) (length c.args.flow.now) (length c.args.side.now) (length c.args.work.now)) = c.plain_check.ensures ∙ ap (plain_check table) c.has_room-room.ensures in
     let given = c.args in
-    let (ok, roomy) = own_accepts table given.stamp given.place given.capacity given.flow.now given.side.now given.work.now _ found c.in-Fine.is in record {
+    let (ok, roomy) = own_accepts table given.stamp given.place given.capacity given.flow.now given.side.now given.work.now _ found c.in-Ok.is in record {
       accepted = ok;
       given_room = (roomy.for_flow, roomy.for_side, roomy.for_work);
     }
 
-pub returns-in-Refused : goal.returns-in-Refused
-returns-in-Refused c =
+pub returns-in-Err : goal.returns-in-Err
+returns-in-Err c =
     let table : BoundedTable = bounded_of c.args.n c.args.s c.args.t c.args.tails.now c.args.heads.now c.args.capacities.now c.args.minimums.now in
     let found : c.plain_check.result ≡ plain_check table (has_room c.args.n (length c.args.capacities.now) (length c.args.flow.now) (length c.args.side.now) (length c.args.work.now)) =
     c.plain_check.ensures ∙ ap (plain_check table) c.has_room-room.ensures in
     let given = c.args in
     let exact : left c.refused.result given.flow.now given.side.now given.work.now ≡ opening table given.stamp given.place given.capacity given.flow.now given.side.now given.work.now =
-    refused_own table given.stamp given.place given.capacity given.flow.now given.side.now given.work.now _ found _ _ c.in-Refused.is c.refused.result c.refused.ensures in record {
+    refused_own table given.stamp given.place given.capacity given.flow.now given.side.now given.work.now _ found _ _ c.in-Err.is c.refused.result c.refused.ensures in record {
       exact = exact;
       best = opening_reopens table given.stamp given.place given.capacity given.flow.now given.side.now given.work.now _ exact;
       notmax = opening_notmax table given.stamp given.place given.capacity given.flow.now given.side.now given.work.now _ exact;
     }
 
-pub returns-in-Fine : goal.returns-in-Fine
-returns-in-Fine c =
+pub returns-in-Ok : goal.returns-in-Ok
+returns-in-Ok c =
     let table : BoundedTable = bounded_of c.args.n c.args.s c.args.t c.args.tails.now c.args.heads.now c.args.capacities.now c.args.minimums.now in
     let found : c.plain_check.result ≡ plain_check table (has_room c.args.n (length c.args.capacities.now) (length c.args.flow.now) (length c.args.side.now) (length c.args.work.now)) =
     c.plain_check.ensures ∙ ap (plain_check table) c.has_room-room.ensures in
     let given = c.args in
     let exact : left c.open_accepted.result c.open_accepted.new.flow c.open_accepted.new.side c.open_accepted.new.work ≡ opening table given.stamp given.place given.capacity given.flow.now given.side.now given.work.now =
-    fine_own table given.stamp given.place given.capacity given.flow.now given.side.now given.work.now _ found c.in-Fine.is _ c.open_accepted.ensures in record {
+    fine_own table given.stamp given.place given.capacity given.flow.now given.side.now given.work.now _ found c.in-Ok.is _ c.open_accepted.ensures in record {
       exact = exact;
       best = opening_reopens table given.stamp given.place given.capacity given.flow.now given.side.now given.work.now _ exact;
       notmax = opening_notmax table given.stamp given.place given.capacity given.flow.now given.side.now given.work.now _ exact;

@@ -18,18 +18,18 @@ pub open_table-requires : goal.open_table-requires
 open_table-requires c =
     let table : Table = table_of c.args.n c.args.s c.args.t c.args.tails.now c.args.heads.now c.args.capacities.now in
     let given = c.args in record {
-      opens = change_asks table given.stamp given.place given.capacity given.flow.now given.side.now given.work.now _ c.change_verdict.ensures c.in-Fine.is c.requires.accepted c.requires.given_room;
+      opens = change_asks table given.stamp given.place given.capacity given.flow.now given.side.now given.work.now _ c.change_verdict.ensures c.in-Ok.is c.requires.accepted c.requires.given_room;
       by_index = λ row. c.fill_work.ensures.listed given.s given.t row;
     }
 
-pub returns-in-Refused : goal.returns-in-Refused
-returns-in-Refused c =
+pub returns-in-Err : goal.returns-in-Err
+returns-in-Err c =
     let table : Table = table_of c.args.n c.args.s c.args.t c.args.tails.now c.args.heads.now c.args.capacities.now in
     let given = c.args in
-    refused_change table given.stamp given.place given.capacity given.flow.now given.side.now given.work.now _ c.change_verdict.ensures _ _ c.in-Refused.is c.refused.result c.refused.ensures
+    refused_change table given.stamp given.place given.capacity given.flow.now given.side.now given.work.now _ c.change_verdict.ensures _ _ c.in-Err.is c.refused.result c.refused.ensures
 
-pub returns-in-Fine : goal.returns-in-Fine
-returns-in-Fine c =
+pub returns-in-Ok : goal.returns-in-Ok
+returns-in-Ok c =
     let table : Table = table_of c.args.n c.args.s c.args.t c.args.tails.now c.args.heads.now c.args.capacities.now in
     let given = c.args in
-    fine_change table given.stamp given.place given.capacity given.flow.now given.side.now given.work.now _ c.change_verdict.ensures c.in-Fine.is _ c.open_table.ensures
+    fine_change table given.stamp given.place given.capacity given.flow.now given.side.now given.work.now _ c.change_verdict.ensures c.in-Ok.is _ c.open_table.ensures

@@ -15,33 +15,33 @@ find_accepted-requires c =
     let bounded : BoundedTable = bounded_of c.args.n c.args.s c.args.t c.args.tails.now c.args.heads.now c.args.capacities.now c.args.minimums.now in
     let checked : c.plain_check.result ≡ plain_verdict bounded (length c.args.flow.now) (length c.args.side.now) (length c.args.work.now) = c.plain_check.ensures ∙ ap (plain_check bounded) c.has_room-room.ensures in
     let given = c.args in
-    let room = fine_roomy bounded given.stamp given.flow.now given.side.now given.work.now given.sources.now given.sinks.now given.places.now _ checked c.in-Fine.is in record {
-      accepted = fine_accepted bounded given.stamp given.flow.now given.side.now given.work.now given.sources.now given.sinks.now given.places.now _ checked c.in-Fine.is;
+    let room = fine_roomy bounded given.stamp given.flow.now given.side.now given.work.now given.sources.now given.sinks.now given.places.now _ checked c.in-Ok.is in record {
+      accepted = fine_accepted bounded given.stamp given.flow.now given.side.now given.work.now given.sources.now given.sinks.now given.places.now _ checked c.in-Ok.is;
       given_room = (room.for_flow, room.for_side, room.for_work);
     }
 
-pub returns-in-Refused : goal.returns-in-Refused
-returns-in-Refused c =
+pub returns-in-Err : goal.returns-in-Err
+returns-in-Err c =
     let bounded : BoundedTable = bounded_of c.args.n c.args.s c.args.t c.args.tails.now c.args.heads.now c.args.capacities.now c.args.minimums.now in
     let checked : c.plain_check.result ≡ plain_verdict bounded (length c.args.flow.now) (length c.args.side.now) (length c.args.work.now) = c.plain_check.ensures ∙ ap (plain_check bounded) c.has_room-room.ensures in
     let answered : LeftOpenings = finding bounded c.args.stamp c.args.flow.now c.args.side.now c.args.work.now c.args.sources.now c.args.sinks.now c.args.places.now in
     let whole : (l : LeftOpenings) → l ≡ answered → (l ≡ answered) × (l.openings.answer.refusal ≡ 0 → Meets bounded.table (left l.openings.answer l.flow l.side l.work) × HelpsExactly bounded.table) = λ l e. let given = c.args in (e, finding_best bounded given.stamp given.flow.now given.side.now given.work.now given.sources.now given.sinks.now given.places.now l e) in
     let given = c.args in
     let the_facts = whole _
-    (refused_finding bounded given.stamp given.flow.now given.side.now given.work.now given.sources.now given.sinks.now given.places.now _ checked _ _ c.in-Refused.is c.no_openings.result c.no_openings.ensures) in record {
+    (refused_finding bounded given.stamp given.flow.now given.side.now given.work.now given.sources.now given.sinks.now given.places.now _ checked _ _ c.in-Err.is c.no_openings.result c.no_openings.ensures) in record {
       exact = the_facts.0;
       best = the_facts.1;
     }
 
-pub returns-in-Fine : goal.returns-in-Fine
-returns-in-Fine c =
+pub returns-in-Ok : goal.returns-in-Ok
+returns-in-Ok c =
     let bounded : BoundedTable = bounded_of c.args.n c.args.s c.args.t c.args.tails.now c.args.heads.now c.args.capacities.now c.args.minimums.now in
     let checked : c.plain_check.result ≡ plain_verdict bounded (length c.args.flow.now) (length c.args.side.now) (length c.args.work.now) = c.plain_check.ensures ∙ ap (plain_check bounded) c.has_room-room.ensures in
     let answered : LeftOpenings = finding bounded c.args.stamp c.args.flow.now c.args.side.now c.args.work.now c.args.sources.now c.args.sinks.now c.args.places.now in
     let whole : (l : LeftOpenings) → l ≡ answered → (l ≡ answered) × (l.openings.answer.refusal ≡ 0 → Meets bounded.table (left l.openings.answer l.flow l.side l.work) × HelpsExactly bounded.table) = λ l e. let given = c.args in (e, finding_best bounded given.stamp given.flow.now given.side.now given.work.now given.sources.now given.sinks.now given.places.now l e) in
     let given = c.args in
     let the_facts = whole _
-    (fine_finding bounded given.stamp given.flow.now given.side.now given.work.now given.sources.now given.sinks.now given.places.now _ checked c.in-Fine.is _ c.find_accepted.ensures) in record {
+    (fine_finding bounded given.stamp given.flow.now given.side.now given.work.now given.sources.now given.sinks.now given.places.now _ checked c.in-Ok.is _ c.find_accepted.ensures) in record {
       exact = the_facts.0;
       best = the_facts.1;
     }

@@ -7,16 +7,16 @@ pub check_text-requires : goal.check_text-requires
 check_text-requires c =
     let table : BoundedTable = let a = c.args in bounded_of a.n a.s a.t a.tails.now a.heads.now a.capacities.now a.minimums.now in
     let a = c.args in
-    plan_accepts table a.text.now a.side.now _ c.text_verdict.ensures c.in-Fine.is
+    plan_accepts table a.text.now a.side.now _ c.text_verdict.ensures c.in-Ok.is
 
-pub returns-in-Refused : goal.returns-in-Refused
-returns-in-Refused c =
+pub returns-in-Err : goal.returns-in-Err
+returns-in-Err c =
     let table : BoundedTable = let a = c.args in bounded_of a.n a.s a.t a.tails.now a.heads.now a.capacities.now a.minimums.now in
     let a = c.args in
-    plan_refused table a.text.now a.side.now _ c.text_verdict.ensures _ _ _ c.in-Refused.is c.not_checked.ensures
+    plan_refused table a.text.now a.side.now _ c.text_verdict.ensures _ _ _ c.in-Err.is c.not_checked.ensures
 
-pub returns-in-Fine : goal.returns-in-Fine
-returns-in-Fine c =
+pub returns-in-Ok : goal.returns-in-Ok
+returns-in-Ok c =
     let table : BoundedTable = let a = c.args in bounded_of a.n a.s a.t a.tails.now a.heads.now a.capacities.now a.minimums.now in
     let a = c.args in
-    plan_fine table a.text.now a.side.now _ c.text_verdict.ensures _ c.in-Fine.is c.check_text.ensures
+    plan_fine table a.text.now a.side.now _ c.text_verdict.ensures _ c.in-Ok.is c.check_text.ensures

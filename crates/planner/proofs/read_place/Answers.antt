@@ -7,19 +7,19 @@ pub read_at-requires : goal.read_at-requires
 read_at-requires c =
     let table : BoundedTable = bounded_of c.args.n c.args.s c.args.t c.args.tails.now c.args.heads.now c.args.capacities.now c.args.minimums.now in
     let given = c.args in
-    let may = fine_readable table given.stamp given.answer given.flow.now given.side.now given.place _ c.reading_verdict.ensures c.in-Fine.is in record {
+    let may = fine_readable table given.stamp given.answer given.flow.now given.side.now given.place _ c.reading_verdict.ensures c.in-Ok.is in record {
       accepted = may.accepted;
       capacities_in_bounds = (may.flows, may.marks, may.inside);
     }
 
-pub returns-in-Refused : goal.returns-in-Refused
-returns-in-Refused c =
+pub returns-in-Err : goal.returns-in-Err
+returns-in-Err c =
     let table : BoundedTable = bounded_of c.args.n c.args.s c.args.t c.args.tails.now c.args.heads.now c.args.capacities.now c.args.minimums.now in
     let given = c.args in
-    refused_reading table given.stamp given.answer given.flow.now given.side.now given.place _ c.reading_verdict.ensures _ _ c.in-Refused.is c.unread.result c.unread.ensures
+    refused_reading table given.stamp given.answer given.flow.now given.side.now given.place _ c.reading_verdict.ensures _ _ c.in-Err.is c.unread.result c.unread.ensures
 
-pub returns-in-Fine : goal.returns-in-Fine
-returns-in-Fine c =
+pub returns-in-Ok : goal.returns-in-Ok
+returns-in-Ok c =
     let table : BoundedTable = bounded_of c.args.n c.args.s c.args.t c.args.tails.now c.args.heads.now c.args.capacities.now c.args.minimums.now in
     let given = c.args in
-    fine_reading table given.stamp given.answer given.flow.now given.side.now given.place _ c.reading_verdict.ensures c.in-Fine.is c.read_at.result c.read_at.ensures
+    fine_reading table given.stamp given.answer given.flow.now given.side.now given.place _ c.reading_verdict.ensures c.in-Ok.is c.read_at.result c.read_at.ensures

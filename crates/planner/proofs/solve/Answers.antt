@@ -12,29 +12,29 @@ pub solve_accepted-requires : goal.solve_accepted-requires
 solve_accepted-requires c =
     let table : BoundedTable = bounded_of c.args.n c.args.s c.args.t c.args.tails.now c.args.heads.now c.args.capacities.now c.args.minimums.now in
     let found : c.check.result ≡ bounded_verdict table (length c.args.flow.now) (length c.args.side.now) (length c.args.work.now) = c.check.ensures ∙ ap (bounded_check table) c.has_room-room.ensures in
-    let the_facts = fine_solvable table c.args.stamp c.args.flow.now c.args.side.now c.args.work.now found c.in-Fine.is in record {
+    let the_facts = fine_solvable table c.args.stamp c.args.flow.now c.args.side.now c.args.work.now found c.in-Ok.is in record {
       solvable = the_facts.0;
       capacities_in_bounds = the_facts.1;
     }
 
-pub returns-in-Refused : goal.returns-in-Refused
-returns-in-Refused c =
+pub returns-in-Err : goal.returns-in-Err
+returns-in-Err c =
     let table : BoundedTable = bounded_of c.args.n c.args.s c.args.t c.args.tails.now c.args.heads.now c.args.capacities.now c.args.minimums.now in
     let found : c.check.result ≡ bounded_verdict table (length c.args.flow.now) (length c.args.side.now) (length c.args.work.now) = c.check.ensures ∙ ap (bounded_check table) c.has_room-room.ensures in
     let whole : (l : SignedLeft) → Solves table c.args.stamp c.args.flow.now c.args.side.now c.args.work.now l → Solves table c.args.stamp c.args.flow.now c.args.side.now c.args.work.now l × (l.answer.refusal ≡ 0 → SolvesWell table l) = λ l so. (so, solves_well table c.args.stamp c.args.flow.now c.args.side.now c.args.work.now l so) in
     let the_facts = whole _
-    (solves_refused table c.args.stamp c.args.flow.now c.args.side.now c.args.work.now found c.in-Refused.is c.refused.ensures) in record {
+    (solves_refused table c.args.stamp c.args.flow.now c.args.side.now c.args.work.now found c.in-Err.is c.refused.ensures) in record {
       exact = the_facts.0;
       best = the_facts.1;
     }
 
-pub returns-in-Fine : goal.returns-in-Fine
-returns-in-Fine c =
+pub returns-in-Ok : goal.returns-in-Ok
+returns-in-Ok c =
     let table : BoundedTable = bounded_of c.args.n c.args.s c.args.t c.args.tails.now c.args.heads.now c.args.capacities.now c.args.minimums.now in
     let found : c.check.result ≡ bounded_verdict table (length c.args.flow.now) (length c.args.side.now) (length c.args.work.now) = c.check.ensures ∙ ap (bounded_check table) c.has_room-room.ensures in
     let whole : (l : SignedLeft) → Solves table c.args.stamp c.args.flow.now c.args.side.now c.args.work.now l → Solves table c.args.stamp c.args.flow.now c.args.side.now c.args.work.now l × (l.answer.refusal ≡ 0 → SolvesWell table l) = λ l so. (so, solves_well table c.args.stamp c.args.flow.now c.args.side.now c.args.work.now l so) in
     let the_facts = whole _
-    (solves_fine table c.args.stamp c.args.flow.now c.args.side.now c.args.work.now found c.in-Fine.is _ c.solve_accepted.ensures) in record {
+    (solves_fine table c.args.stamp c.args.flow.now c.args.side.now c.args.work.now found c.in-Ok.is _ c.solve_accepted.ensures) in record {
       exact = the_facts.0;
       best = the_facts.1;
     }

@@ -13,27 +13,27 @@ halt-stop-requires c =
     let bounded : BoundedTable = bounded_of c.args.n c.args.s c.args.t c.args.tails.now c.args.heads.now c.args.capacities.now c.args.minimums.now in
     let found : c.plain_check.result ≡ asking_verdict bounded (length c.args.work.now) = c.plain_check.ensures ∙ ap (plain_check bounded) c.has_work-roomy.ensures in
     let given = c.args in
-    fine_accepted bounded (length given.work.now) _ found c.in-Fine.is
+    fine_accepted bounded (length given.work.now) _ found c.in-Ok.is
 
-pub returns-in-Refused : goal.returns-in-Refused
-returns-in-Refused c =
+pub returns-in-Err : goal.returns-in-Err
+returns-in-Err c =
     let bounded : BoundedTable = bounded_of c.args.n c.args.s c.args.t c.args.tails.now c.args.heads.now c.args.capacities.now c.args.minimums.now in
     let found : c.plain_check.result ≡ asking_verdict bounded (length c.args.work.now) = c.plain_check.ensures ∙ ap (plain_check bounded) c.has_work-roomy.ensures in
     let whole : (l : RoomLeft) → l ≡ asking bounded c.args.stamp c.args.q c.args.work.now → (l ≡ asking bounded c.args.stamp c.args.q c.args.work.now) × (l.answer.refusal ≡ 0 → Says bounded.table c.args.q l.answer) = λ l e. (e, asking_says bounded c.args.stamp c.args.q c.args.work.now l e) in
     let given = c.args in
-    let the_facts = whole _ (refused_asking bounded given.stamp given.q given.work.now _ found _ _ c.in-Refused.is c.refused.result c.refused.ensures) in record {
+    let the_facts = whole _ (refused_asking bounded given.stamp given.q given.work.now _ found _ _ c.in-Err.is c.refused.result c.refused.ensures) in record {
       exact = the_facts.0;
       says = the_facts.1;
     }
 
-pub returns-in-Fine : goal.returns-in-Fine
-returns-in-Fine c =
+pub returns-in-Ok : goal.returns-in-Ok
+returns-in-Ok c =
     let bounded : BoundedTable = bounded_of c.args.n c.args.s c.args.t c.args.tails.now c.args.heads.now c.args.capacities.now c.args.minimums.now in
     let found : c.plain_check.result ≡ asking_verdict bounded (length c.args.work.now) = c.plain_check.ensures ∙ ap (plain_check bounded) c.has_work-roomy.ensures in
     let whole : (l : RoomLeft) → l ≡ asking bounded c.args.stamp c.args.q c.args.work.now → (l ≡ asking bounded c.args.stamp c.args.q c.args.work.now) × (l.answer.refusal ≡ 0 → Says bounded.table c.args.q l.answer) = λ l e. (e, asking_says bounded c.args.stamp c.args.q c.args.work.now l e) in
     let given = c.args in
     let the_facts = whole _
-    (fine_asking bounded given.stamp given.q given.work.now _ found c.in-Fine.is _
+    (fine_asking bounded given.stamp given.q given.work.now _ found c.in-Ok.is _
     (asked_rows bounded.table given.stamp given.q given.work.now c.halt-stop.result c.answer_of.result c.halt-stop.new.work c.halt-stop.ensures c.answer_of.ensures)) in record {
       exact = the_facts.0;
       says = the_facts.1;

@@ -13,14 +13,14 @@ reduce_accepted-requires c =
     let small : SmallRows = small_rows c.args.small_tails.now c.args.small_heads.now c.args.small_capacities.now c.args.nodes_from.now c.args.arcs_from.now in
     let checked : c.plain_check.result ≡ reducing_verdict bounded (length c.args.flow.now) (length c.args.side.now) (length c.args.work.now) small = c.plain_check.ensures ∙ ap (plain_check bounded) (c.has_small_room-room.ensures ∙ ap (λ room. room && has_small_room bounded.table.nodes (length bounded.table.capacities) (length small.tails) (length small.heads) (length small.capacities) (length small.nodes_from) (length small.arcs_from)) c.has_room-solving.ensures) in
     let given = c.args in
-    let (room, roomy) = fine_roomy bounded given.stamp given.flow.now given.side.now given.work.now small _ checked c.in-Fine.is in
-    let ok = fine_accepted bounded given.stamp given.flow.now given.side.now given.work.now small _ checked c.in-Fine.is in record {
+    let (room, roomy) = fine_roomy bounded given.stamp given.flow.now given.side.now given.work.now small _ checked c.in-Ok.is in
+    let ok = fine_accepted bounded given.stamp given.flow.now given.side.now given.work.now small _ checked c.in-Ok.is in record {
       accepted = (ok, room.for_flow);
       given_room_to_reduce = (room.for_side, room.for_work, roomy.for_tails, roomy.for_heads, roomy.for_capacities, roomy.for_nodes, roomy.for_arcs);
     }
 
-pub returns-in-Refused : goal.returns-in-Refused
-returns-in-Refused c =
+pub returns-in-Err : goal.returns-in-Err
+returns-in-Err c =
     let bounded : BoundedTable = bounded_of c.args.n c.args.s c.args.t c.args.tails.now c.args.heads.now c.args.capacities.now c.args.minimums.now in
     let small : SmallRows = small_rows c.args.small_tails.now c.args.small_heads.now c.args.small_capacities.now c.args.nodes_from.now c.args.arcs_from.now in
     let checked : c.plain_check.result ≡ reducing_verdict bounded (length c.args.flow.now) (length c.args.side.now) (length c.args.work.now) small = c.plain_check.ensures ∙ ap (plain_check bounded) (c.has_small_room-room.ensures ∙ ap (λ room. room && has_small_room bounded.table.nodes (length bounded.table.capacities) (length small.tails) (length small.heads) (length small.capacities) (length small.nodes_from) (length small.arcs_from)) c.has_room-solving.ensures) in
@@ -28,13 +28,13 @@ returns-in-Refused c =
     let whole : (l : LeftReduced) → l ≡ answered → (l ≡ answered) × (l.reduced.answer.refusal ≡ 0 → Reduces bounded.table l) = λ l e. (e, reducing_reduces bounded c.args.stamp c.args.flow.now c.args.side.now c.args.work.now small l e) in
     let given = c.args in
     let the_facts = whole _
-    (refused_reducing bounded given.stamp given.flow.now given.side.now given.work.now small _ checked _ _ c.in-Refused.is c.not_reduced.result c.not_reduced.ensures) in record {
+    (refused_reducing bounded given.stamp given.flow.now given.side.now given.work.now small _ checked _ _ c.in-Err.is c.not_reduced.result c.not_reduced.ensures) in record {
       exact = the_facts.0;
       means = the_facts.1;
     }
 
-pub returns-in-Fine : goal.returns-in-Fine
-returns-in-Fine c =
+pub returns-in-Ok : goal.returns-in-Ok
+returns-in-Ok c =
     let bounded : BoundedTable = bounded_of c.args.n c.args.s c.args.t c.args.tails.now c.args.heads.now c.args.capacities.now c.args.minimums.now in
     let small : SmallRows = small_rows c.args.small_tails.now c.args.small_heads.now c.args.small_capacities.now c.args.nodes_from.now c.args.arcs_from.now in
     let checked : c.plain_check.result ≡ reducing_verdict bounded (length c.args.flow.now) (length c.args.side.now) (length c.args.work.now) small = c.plain_check.ensures ∙ ap (plain_check bounded) (c.has_small_room-room.ensures ∙ ap (λ room. room && has_small_room bounded.table.nodes (length bounded.table.capacities) (length small.tails) (length small.heads) (length small.capacities) (length small.nodes_from) (length small.arcs_from)) c.has_room-solving.ensures) in
@@ -42,7 +42,7 @@ returns-in-Fine c =
     let whole : (l : LeftReduced) → l ≡ answered → (l ≡ answered) × (l.reduced.answer.refusal ≡ 0 → Reduces bounded.table l) = λ l e. (e, reducing_reduces bounded c.args.stamp c.args.flow.now c.args.side.now c.args.work.now small l e) in
     let given = c.args in
     let the_facts = whole _
-    (fine_reducing bounded given.stamp given.flow.now given.side.now given.work.now small _ checked c.in-Fine.is _ c.reduce_accepted.ensures) in record {
+    (fine_reducing bounded given.stamp given.flow.now given.side.now given.work.now small _ checked c.in-Ok.is _ c.reduce_accepted.ensures) in record {
       exact = the_facts.0;
       means = the_facts.1;
     }

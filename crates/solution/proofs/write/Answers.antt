@@ -11,17 +11,17 @@ pub put_flows-end-requires : goal.put_flows-end-requires
 put_flows-end-requires c =
     let table : BoundedTable = let a = c.args in bounded_of a.n a.s a.t a.tails.now a.heads.now a.capacities.now a.minimums.now in
     let a = c.args in
-    let w = writes_fine table a.value a.flow.now _ _ c.writing_verdict.ensures c.in-Fine.is in
+    let w = writes_fine table a.value a.flow.now _ _ c.writing_verdict.ensures c.in-Ok.is in
     (wrote_within c.put_line-lines.ensures, (accepted_arcs table.table w.accepted a.flow.now w.room).0)
 
-pub returns-in-Refused : goal.returns-in-Refused
-returns-in-Refused c =
+pub returns-in-Err : goal.returns-in-Err
+returns-in-Err c =
     let table : BoundedTable = let a = c.args in bounded_of a.n a.s a.t a.tails.now a.heads.now a.capacities.now a.minimums.now in
     let a = c.args in
-    writing_refused table a.value a.flow.now a.text.now _ c.writing_verdict.ensures _ _ _ c.in-Refused.is (ap (λ (x : ℕ). written_with x c.in-Refused.place 0) c.number.ensures)
+    writing_refused table a.value a.flow.now a.text.now _ c.writing_verdict.ensures _ _ _ c.in-Err.is (ap (λ (x : ℕ). written_with x c.in-Err.place 0) c.number.ensures)
 
-pub returns-in-Fine : goal.returns-in-Fine
-returns-in-Fine c =
+pub returns-in-Ok : goal.returns-in-Ok
+returns-in-Ok c =
     let table : BoundedTable = let a = c.args in bounded_of a.n a.s a.t a.tails.now a.heads.now a.capacities.now a.minimums.now in
     let a = c.args in
-    writing_fine table a.value a.flow.now a.text.now _ c.writing_verdict.ensures _ _ _ _ c.in-Fine.is c.put_line-lines.ensures c.put_flows-end.ensures
+    writing_fine table a.value a.flow.now a.text.now _ c.writing_verdict.ensures _ _ _ _ c.in-Ok.is c.put_line-lines.ensures c.put_flows-end.ensures

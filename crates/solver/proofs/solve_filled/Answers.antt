@@ -4,7 +4,7 @@ use mathlib.Core.Path.{◌≡◌, sym, ◌∙◌}
 use mathlib.Core.List.{List}
 use native.Mathlib.Omega.{arith}
 use lib.ListN.{length}
-use Rattle.table.specs.Table.{table_of, Table, arcs}
+use Rattle.table.specs.Table.{table_of, Table, arcs, table_in}
 use Rattle.table.specs.Accepted.{Accepted}
 use Rattle.arcs.specs.Work.{InWork}
 use Rattle.arcs.proofs.Work.{in_work_kept}
@@ -17,7 +17,7 @@ run-outcome-requires c =
 
 pub value-value-requires : goal.value-value-requires
 value-value-requires c =
-    let table : Table = table_of c.args.n c.args.s c.args.t c.args.tails.now c.args.heads.now c.args.capacities.now in
+    let table : Table = table_in c.args.table.now in
     let accepted : Accepted table = c.requires.fact.0 in
     let flow : List ℕ = c.run-outcome.new.flow in
     let as_long : length flow ≡ arcs table = c.run-outcome.auto.flow ∙ c.requires.flow_len.0 in
@@ -28,7 +28,7 @@ value-value-requires c =
 
 pub mark-requires : goal.mark-requires
 mark-requires c =
-    let table : Table = table_of c.args.n c.args.s c.args.t c.args.tails.now c.args.heads.now c.args.capacities.now in
+    let table : Table = table_in c.args.table.now in
     let accepted : Accepted table = c.requires.fact.0 in
     let flow : List ℕ = c.run-outcome.new.flow in
     let work : List ℕ = c.run-outcome.new.work in
@@ -36,19 +36,19 @@ mark-requires c =
     let in_work : InWork table work = in_work_kept table c.args.work.now work c.run-outcome.ensures.lists_stay (sym c.run-outcome.auto.work) c.requires.fact.1 in
     record {
       arc_rows = (accepted.rows, omega (arith, as_long), accepted.source);
-      by_index = (c.args.s, c.args.t, in_work);
+      by_index = (c.args.table.now.source, c.args.table.now.sink, in_work);
       n_in_bounds = c.requires.flow_len.1;
     }
 
 pub returns : goal.returns
 returns c =
-    let table : Table = table_of c.args.n c.args.s c.args.t c.args.tails.now c.args.heads.now c.args.capacities.now in
+    let table : Table = table_in c.args.table.now in
     let accepted : Accepted table = c.requires.fact.0 in
     let flow : List ℕ = c.run-outcome.new.flow in
     let work : List ℕ = c.run-outcome.new.work in
     filled_by table c.args.stamp c.args.side.now c.args.work.now c.run-outcome.result c.value-value.result c.answer_of.result flow
     c.mark.new.side work
     c.run-outcome.ensures
-    (c.value-value.ensures c.args.n c.args.t c.args.capacities.now accepted.rows.capacities_long)
-    (c.mark.ensures c.args.t)
+    (c.value-value.ensures c.args.table.now.nodes c.args.table.now.sink c.args.table.now.capacities.now accepted.rows.capacities_long)
+    (c.mark.ensures c.args.table.now.sink)
     c.answer_of.ensures

@@ -4,7 +4,7 @@ use mathlib.Core.Path.{sym, subst, ◌∙◌}
 use mathlib.Core.List.{List}
 use native.Mathlib.Omega.{arith}
 use lib.ListN.{length}
-use Rattle.table.specs.Table.{table_of, Table}
+use Rattle.table.specs.Table.{table_of, Table, table_in}
 use Rattle.arcs.specs.Work.{ElseSame}
 use Rattle.arcs.proofs.Ends.{ends_wide}
 use Rattle.arcs.proofs.Work.{cleared_is}
@@ -18,7 +18,7 @@ fill_work-requires c =
 
 pub solve_filled-answer-requires : goal.solve_filled-answer-requires
 solve_filled-answer-requires c = record {
-  fact = (c.requires.accepted, c.fill_work.ensures.listed c.args.s c.args.t c.args.capacities.now c.requires.accepted.rows.capacities_long);
+  fact = (c.requires.accepted, c.fill_work.ensures.listed c.args.table.now.source c.args.table.now.sink c.args.table.now.capacities.now c.requires.accepted.rows.capacities_long);
   flow_len = (c.requires.flow_len.0, c.requires.flow_len.1);
 }
 
@@ -32,12 +32,12 @@ clear-requires c =
 
 pub returns : goal.returns
 returns c =
-    let table : Table = table_of c.args.n c.args.s c.args.t c.args.tails.now c.args.heads.now c.args.capacities.now in
+    let table : Table = table_in c.args.table.now in
     let filled : List ℕ = c.fill_work.new.work in
     let given = c.args in
     let worked = c.solve_filled-answer.new.work in
     solved_rows table given.stamp given.flow.now given.side.now given.work.now filled c.solve_filled-answer.result _ _ worked _
     c.requires.flow_len.0 c.solve_filled-answer.ensures
     (c.clear.ensures
-    ∙ cleared_is given.n (length given.capacities.now) _ c.work_need.ensures given.work.now filled worked
-    (subst (λ (k : ℕ). ElseSame given.n k given.work.now filled) (sym c.requires.accepted.rows.capacities_long) c.fill_work.ensures.same) c.solve_filled-answer.ensures.lists_stay)
+    ∙ cleared_is given.table.now.nodes (length given.table.now.capacities.now) _ c.work_need.ensures given.work.now filled worked
+    (subst (λ (k : ℕ). ElseSame given.table.now.nodes k given.work.now filled) (sym c.requires.accepted.rows.capacities_long) c.fill_work.ensures.same) c.solve_filled-answer.ensures.lists_stay)
