@@ -8,7 +8,7 @@ use native.Mathlib.Omega.{arith}
 use borrow.Author.Tests.{leb-true}
 use lib.ListN.{length}
 use Rattle.table.specs.Table.{Table, arcs}
-use Rattle.table.specs.Checks.{is_fine, fine, refused, Verdict}
+use Rattle.table.specs.Checks.{is_fine, no_refusal, refused, Verdict}
 use Rattle.table.specs.Accepted.{Accepted}
 use Rattle.table.proofs.Numbers.{number_positive}
 use Rattle.minimums.specs.BoundedTable.{BoundedTable}
@@ -22,7 +22,7 @@ use Rattle.until.proofs.Stopping.{stopped_stops}
 use Rattle.asking.specs.Asking.{RoomLeft, room_left, room_need, has_work, refusal, answer_with, answer_of, asked, asking_as, asking_verdict, asking, Says}
 
 -- A table that passes is accepted, and the work row has room.
-pub fine_accepted : (b : BoundedTable) (work : ℕ) (v : Verdict) → v ≡ asking_verdict b work → v ≡ fine
+pub fine_accepted : (b : BoundedTable) (work : ℕ) (v : Verdict) → v ≡ asking_verdict b work → v ≡ no_refusal
     → Accepted b.table × (room_need b.table.nodes (arcs b.table) ≤ work)
 fine_accepted b work v found e =
     let (accepted, roomy) = plain_accepts b (has_work b.table.nodes (arcs b.table) work) (ap is_fine (sym found ∙ e)) in

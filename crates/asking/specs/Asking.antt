@@ -13,7 +13,7 @@ use Rattle.run.specs.declared.Counts.{Counts}
 use Rattle.until.specs.Stepwise.{after_steps}
 use Rattle.until.specs.Stopping.{into_sink, reaches, stopped}
 use Rattle.asking.specs.declared.Room.{Room}
-use Rattle.table.specs.Checks.{fine, refused, Verdict}
+use Rattle.table.specs.Checks.{no_refusal, refused, Verdict}
 
 -- What the question returns, and what the work row lent to it holds afterwards.
 pub record RoomLeft : Type 0 where
@@ -52,8 +52,8 @@ refusal name place =
 unfoldable pub answer_with : (stamp : ℕ) (said : Bool) (worth scale phases : ℕ) → Counts → Room
 answer_with stamp said worth scale phases counts =
     record {
-      refusal = refusal_in fine;
-      place = place_in fine;
+      refusal = refusal_in no_refusal;
+      place = place_in no_refusal;
       stamp = stamp;
       yes = cond said 1 0;
       value = worth;

@@ -3,7 +3,7 @@
 
 ghost use Rattle.std.specs.Prelude.{◌≡◌, ◌++◌, ◌+◌, ◌*◌, ◌/◌, ◌^◌, ◌≤◌, ◌<◌, length, take, drop};
 ghost use Rattle.little.specs.Little.{bytes_of_all};
-ghost use Rattle.table.specs.Table.{table_of, lent_table, given_table};
+ghost use Rattle.table.specs.Table.{table_of, table_in};
 ghost use Rattle.table.specs.Checks.{sizes_of};
 ghost use Rattle.table.specs.Refusals.{number_of};
 ghost use Rattle.table.specs.declared.Verdict.TheVariants.{Fine};
@@ -15,7 +15,7 @@ ghost use Rattle.wire.specs.Place.{told, three, told_as, telling};
 
 use planner::Reading;
 use solver::Answer;
-use table::{Name, Verdict};
+use table::{LentTable, Name, Refusal};
 
 // ---- what both calls share
 
@@ -85,80 +85,72 @@ fn write_result(res: &mut [u8], a: Answer)
 
 // Solves an accepted table with room, in rows of its own, and writes the answer as bytes.
 fn serve_accepted(
-    n: u32,
-    s: u32,
-    t: u32,
+    table: &LentTable,
     stamp: u32,
-    tails: &[u32],
-    heads: &[u32],
-    capacities: &[u32],
     flow: &mut [u8],
     side: &mut [u8],
     res: &mut [u8],
 ) -> u64
-    requires { serving_verdict (given_table n s t tails heads capacities) flow.old side.old res.old ≡ Fine }
-    ensures { served result flow.new side.new res.new ≡ serving (lent_table n s t tails heads capacities) stamp flow.old side.old res.old }
+    requires { serving_verdict (table_in table.now) flow.old side.old res.old ≡ Fine }
+    ensures { served result flow.new side.new res.new ≡ serving (table_in table.now) stamp flow.old side.old res.old }
 {
     let mut flows = [0u32; 4096];
     let mut marks = [0u8; 512];
     let mut work = [0u32; 4 * 512 + 2 * 4096 + 1];
-    let answer = solver::solve_table(
-        n, s, t, stamp, tails, heads, capacities, &mut flows, &mut marks, &mut work,
-    );
-    write_flows(flow, &flows, capacities.len());
-    write_marks(side, &marks, n);
+    let answer = solver::solve_table(table, stamp, &mut flows, &mut marks, &mut work);
+    write_flows(flow, &flows, table.capacities.len());
+    write_marks(side, &marks, table.nodes);
     write_result(res, answer);
     0
 }
 
 // Solves a table of three rows, or gives the first refusal.
 fn serve_rows(
-    n: u32,
-    s: u32,
-    t: u32,
+    table: &LentTable,
     stamp: u32,
-    tails: &[u32],
-    heads: &[u32],
-    capacities: &[u32],
     flow: &mut [u8],
     side: &mut [u8],
     res: &mut [u8],
 ) -> u64
-    ensures { served result flow.new side.new res.new ≡ serving (lent_table n s t tails heads capacities) stamp flow.old side.old res.old }
+    ensures { served result flow.new side.new res.new ≡ serving (table_in table.now) stamp flow.old side.old res.old }
 {
-    let room = has_byte_room(56, n, capacities.len(), flow.len(), side.len(), res.len());
-    match table::check(n, tails, heads, capacities, s, t, room) {
-        Verdict::Refused(name, place) => refused(name, place),
-        Verdict::Fine => serve_accepted(n, s, t, stamp, tails, heads, capacities, flow, side, res),
+    let room = has_byte_room(
+        56,
+        table.nodes,
+        table.capacities.len(),
+        flow.len(),
+        side.len(),
+        res.len(),
+    );
+    match table::check(table, room) {
+        Err(refusal) => refused(name, place),
+        Ok(()) => serve_accepted(table, stamp, flow, side, res),
     }
 }
 
 // The same, of the first m places of rows.
 fn serve_first(
-    n: u32,
-    s: u32,
-    t: u32,
+    table: &LentTable,
     stamp: u32,
     m: usize,
-    tails: &[u32],
-    heads: &[u32],
-    capacities: &[u32],
     flow: &mut [u8],
     side: &mut [u8],
     res: &mut [u8],
 ) -> u64
-    requires { (m ≤ length tails.now) × (m ≤ length heads.now) × (m ≤ length capacities.now) }
-    ensures { let table = table_of n s t (take m tails.now) (take m heads.now) (take m capacities.now) in
+    requires { (m ≤ length table.now.tails.now) × (m ≤ length table.now.heads.now) × (m ≤ length table.now.capacities.now) }
+    ensures { let table = table_of table.now.nodes table.now.source table.now.sink (take m table.now.tails.now) (take m table.now.heads.now) (take m table.now.capacities.now) in
         served result flow.new side.new res.new ≡ serving table stamp flow.old side.old res.old }
 {
     serve_rows(
-        n,
-        s,
-        t,
+        TODO(
+            table.nodes,
+            table.source,
+            table.sink,
+            &table.tails[..m],
+            &table.heads[..m],
+            &table.capacities[..m],
+        ),
         stamp,
-        &tails[..m],
-        &heads[..m],
-        &capacities[..m],
         flow,
         side,
         res,
@@ -187,14 +179,9 @@ fn serve_arcs(
     codec::get_column(arcs, 12, 4, &mut heads, m);
     codec::get_column(arcs, 12, 8, &mut capacities, m);
     serve_first(
-        n,
-        s,
-        t,
+        TODO(n, s, t, &tails, &heads, &capacities),
         stamp,
         m,
-        &tails,
-        &heads,
-        &capacities,
         flow,
         side,
         res,
@@ -216,8 +203,8 @@ pub fn solve_bytes(
 {
     let m = arcs.len() / 12;
     match table::sizes(n, (arcs.len() + 11) / 12, m, m, s, t) {
-        Verdict::Refused(name, place) => refused(name, place),
-        Verdict::Fine => serve_arcs(n, s, t, stamp, arcs, flow, side, res),
+        Err(refusal) => refused(name, place),
+        Ok(()) => serve_arcs(n, s, t, stamp, arcs, flow, side, res),
     }
 }
 
@@ -250,34 +237,30 @@ fn tell(r: Reading, res: &mut [u8]) -> u64
 
 // Reads an answer at a place, of the first m places of rows.
 fn read_first(
-    n: u32,
-    s: u32,
-    t: u32,
+    bounded: &LentBounded,
     stamp: u32,
     m: usize,
-    tails: &[u32],
-    heads: &[u32],
-    capacities: &[u32],
-    minimums: &[u32],
     answer: u32,
     flow: &[u32],
     side: &[u8],
     place: u32,
 ) -> Reading
-    requires { (m ≤ length tails.now) × (m ≤ length heads.now) × (m ≤ length capacities.now) × (m ≤ length minimums.now)
+    requires { (m ≤ length bounded.now.table.tails.now) × (m ≤ length bounded.now.table.heads.now) × (m ≤ length bounded.now.table.capacities.now) × (m ≤ length bounded.now.minimums.now)
         × (m ≤ length flow.now) }
-    ensures { let table = bounded_of n s t (take m tails.now) (take m heads.now) (take m capacities.now) (take m minimums.now) in
+    ensures { let table = bounded_of bounded.now.table.nodes bounded.now.table.source bounded.now.table.sink (take m bounded.now.table.tails.now) (take m bounded.now.table.heads.now) (take m bounded.now.table.capacities.now) (take m bounded.now.minimums.now) in
         result ≡ reading table stamp answer (take m flow.now) side.now place }
 {
     planner::read_place(
-        n,
-        s,
-        t,
+        TODO(
+            bounded.table.nodes,
+            bounded.table.source,
+            bounded.table.sink,
+            &bounded.table.tails[..m],
+            &bounded.table.heads[..m],
+            &bounded.table.capacities[..m],
+            &bounded.minimums[..m],
+        ),
         stamp,
-        &tails[..m],
-        &heads[..m],
-        &capacities[..m],
-        &minimums[..m],
         answer,
         &flow[..m],
         side,
@@ -313,15 +296,9 @@ fn read_arcs(
     codec::get_column(arcs, 12, 8, &mut capacities, m);
     codec::get_column(flow, 4, 0, &mut flows, m);
     read_first(
-        n,
-        s,
-        t,
+        TODO(n, s, t, &tails, &heads, &capacities, &minimums),
         stamp,
         m,
-        &tails,
-        &heads,
-        &capacities,
-        &minimums,
         answer,
         &flows,
         side,
@@ -370,7 +347,7 @@ pub fn read_bytes(
 {
     let m = arcs.len() / 12;
     match table::sizes(n, (arcs.len() + 11) / 12, m, m, s, t) {
-        Verdict::Refused(name, at) => refused(name, at),
-        Verdict::Fine => tell_arcs(n, s, t, stamp, arcs, answer, flow, side, place, res),
+        Err(refusal) => refused(name, at),
+        Ok(()) => tell_arcs(n, s, t, stamp, arcs, answer, flow, side, place, res),
     }
 }

@@ -19,7 +19,7 @@ use Rattle.solver.proofs.Solved.{solved_flows, handed_over_lem}
 use Rattle.pieces.specs.Chains.{list_of}
 use Rattle.pieces.proofs.Lowest.{cond_true, cond_false}
 use Rattle.chains.specs.Listing.{Shown, shown, run_list, listing_as, listing_checked, handed_over}
-use Rattle.table.specs.Checks.{fine, refused}
+use Rattle.table.specs.Checks.{no_refusal, refused}
 
 module _ (answer : Answer) (n m : ℕ) (flows marks numbers flow side work list : List ℕ) (count : ℕ) (counted : count ≡ length numbers) where
   -- The list is longer than its row,
@@ -56,7 +56,7 @@ module _ (t : Table) (ok : Accepted t) where
       by_room : (b : Bool) →
           cond b (shown (left (refusal Room 0) flow side work) 0 list)
           (shown (left a ((run t).state.flow ++ drop (arcs t) flow) (take t.nodes marks ++ drop t.nodes side) (cleared (work_need t.nodes (arcs t)) work)) (length (run_list t)) (run_list t ++ drop (length (run_list t)) list))
-          ≡ listing_as (cond b (refused Room 0) fine) t stamp flow side work list
+          ≡ listing_as (cond b (refused Room 0) no_refusal) t stamp flow side work list
       by_room true = refl
       by_room false =
           ap (λ (x : Left). shown x (length (run_list t)) (run_list t ++ drop (length (run_list t)) list))

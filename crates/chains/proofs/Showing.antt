@@ -11,7 +11,7 @@ use lib.ListN.{length, drop}
 use lib.Seq.{take_at}
 use Rattle.table.specs.Table.{Table, arcs}
 use Rattle.table.specs.Accepted.{Accepted}
-use Rattle.table.specs.Checks.{is_fine, refuse_if, or_else, fine, refused, Verdict}
+use Rattle.table.specs.Checks.{is_fine, refuse_if, or_else, no_refusal, refused, Verdict}
 use Rattle.table.specs.declared.Name.{Name}
 use Rattle.table.specs.declared.Name.TheVariants.{Room}
 use Rattle.table.proofs.Numbers.{number_positive}
@@ -32,23 +32,23 @@ module _ (b : BoundedTable) (stamp : ℕ) (flow side work list : List ℕ) (v : 
   refused_listing name place e r f = rw (← found, e) (ap (λ (a : Answer). shown (left a flow side work) 0 list) f)
 
   -- Where they do not, the list's ROOM decides;
-  pub fine_listing : v ≡ fine → (l : Shown) → l ≡ listing_checked b.table stamp flow side work list
+  pub fine_listing : v ≡ no_refusal → (l : Shown) → l ≡ listing_checked b.table stamp flow side work list
       → l ≡ listing b stamp flow side work list
   unfolding listing listing_verdict or_else
   fine_listing e l f = rw (← found, e) f
 
   -- the table is accepted,
-  pub fine_accepted : v ≡ fine → Accepted b.table
+  pub fine_accepted : v ≡ no_refusal → Accepted b.table
   fine_accepted e = (plain_accepts b _ (ap is_fine (sym found ∙ e))).0
 
   -- and solving's rows have room.
-  pub fine_roomy : v ≡ fine → Roomy b.table.nodes (arcs b.table) (length flow) (length side) (length work)
+  pub fine_roomy : v ≡ no_refusal → Roomy b.table.nodes (arcs b.table) (length flow) (length side) (length work)
   fine_roomy e = room_roomy _ _ _ _ _ (plain_accepts b _ (ap is_fine (sym found ∙ e))).1
 
 -- ---- what holds of a listed table
 
 -- Demands 2 and 3, and document 02's promises of the list.
-listed_shows : (t : Table) (stamp : ℕ) (flow side work list : List ℕ) → Accepted t → Shows t (listing_as fine t stamp flow side work list)
+listed_shows : (t : Table) (stamp : ℕ) (flow side work list : List ℕ) → Accepted t → Shows t (listing_as no_refusal t stamp flow side work list)
 unfolding listing_as solved answer_with
 listed_shows t stamp flow side work list ok =
     let flow_is = solved_flows t ok flow in
@@ -61,15 +61,15 @@ listed_shows t stamp flow side work list ok =
 
 module _ (b : BoundedTable) (stamp : ℕ) (flow side work list : List ℕ) (l : Shown) (same : l ≡ listing b stamp flow side work list) (none : l.solving.answer.refusal ≡ 0) where
   -- What refuses nothing has passed the checks, and the table is listed.
-  passed : (plain_verdict b (length flow) (length side) (length work) ≡ fine) × (l ≡ listing_as fine b.table stamp flow side work list)
+  passed : (plain_verdict b (length flow) (length side) (length work) ≡ no_refusal) × (l ≡ listing_as no_refusal b.table stamp flow side work list)
   unfolding listing listing_verdict listing_as or_else
   passed =
       let (fine, e) = go (plain_verdict b (length flow) (length side) (length work)) (ltb (length list) (length (run_list b.table))) (sym (ap (λ (x : Shown). x.solving.answer.refusal) same) ∙ none) in
       (fine, same ∙ e)
     where
       go : (v : Verdict) (long : Bool)
-          → (listing_as (or_else v (cond long (refused Room 0) fine)) b.table stamp flow side work list).solving.answer.refusal ≡ 0
-          → (v ≡ fine) × (listing_as (or_else v (cond long (refused Room 0) fine)) b.table stamp flow side work list ≡ listing_as fine b.table stamp flow side work list)
+          → (listing_as (or_else v (cond long (refused Room 0) no_refusal)) b.table stamp flow side work list).solving.answer.refusal ≡ 0
+          → (v ≡ no_refusal) × (listing_as (or_else v (cond long (refused Room 0) no_refusal)) b.table stamp flow side work list ≡ listing_as no_refusal b.table stamp flow side work list)
       go (Err why) long zero_number = absurd (number_positive why.name zero_number)
       go (Ok _) true zero_number = absurd (number_positive Room zero_number)
       go (Ok _) false zero_number = (refl, refl)
@@ -84,10 +84,10 @@ module _ (b : BoundedTable) (stamp : ℕ) (flow side work list : List ℕ) (l : 
   pub listing_solves : l.solving ≡ solving b.table stamp flow side work
   unfolding listing_as
   listing_solves =
-      fine_solving b.table stamp flow side work fine (sym (plain_fine b _ (ap is_fine passed.0))) refl _
+      fine_solving b.table stamp flow side work no_refusal (sym (plain_fine b _ (ap is_fine passed.0))) refl _
       (ap (λ (x : Shown). x.solving) passed.1)
 
 -- A row of m (3 + n) numbers has room for every list.
-pub room_enough : (t : Table) → Accepted t → (list : ℕ) → arcs t * (3 + t.nodes) ≤ list → room_verdict t list ≡ fine
+pub room_enough : (t : Table) → Accepted t → (list : ℕ) → arcs t * (3 + t.nodes) ≤ list → room_verdict t list ≡ no_refusal
 room_enough t ok list room =
-    ap (λ (b : Bool). refuse_if b Room 0 fine) (le-ltb list (length (run_list t)) (omega (arith, run_short t ok)))
+    ap (λ (b : Bool). refuse_if b Room 0 no_refusal) (le-ltb list (length (run_list t)) (omega (arith, run_short t ok)))

@@ -3,7 +3,7 @@ use Rattle.std.specs.Prelude.{ℕ, ◌≤◌, ◌≡◌, cond, List, ◌++◌, l
 use Rattle.rows.specs.Lent.{LentRow}
 use Rattle.rows.specs.Row.{cleared}
 use Rattle.table.specs.Table.{Table, arcs, network_of}
-use Rattle.table.specs.Checks.{refuse_if, or_else, fine, Verdict}
+use Rattle.table.specs.Checks.{refuse_if, or_else, no_refusal, Verdict}
 use Rattle.table.specs.declared.Name.TheVariants.{Room}
 use Rattle.arcs.specs.Work.{work_need}
 use Rattle.run.specs.Phase.{run}
@@ -35,7 +35,7 @@ run_list t = numbers (chains_of t (run t).state.flow)
 
 -- ROOM, exactly when this list is longer than its row.
 abbrev pub room_verdict : Table → (list : ℕ) → Verdict
-room_verdict t list = refuse_if (ltb list (length (run_list t))) Room 0 fine
+room_verdict t list = refuse_if (ltb list (length (run_list t))) Room 0 no_refusal
 
 -- The order: the refusals as for solving, BOUNDED, and last the list's ROOM.
 unfoldable pub listing_verdict : BoundedTable → (flow side work list : ℕ) → Verdict

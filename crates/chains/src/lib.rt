@@ -4,17 +4,17 @@
 ghost use Rattle.std.specs.Prelude.{◌≡◌, ◌≤◌, length};
 ghost use Rattle.rows.specs.Row.{Node};
 ghost use Rattle.solver.specs.Solving.{GivenRoom};
-ghost use Rattle.table.specs.Table.{lent_table, given_table};
+ghost use Rattle.table.specs.Table.{table_in};
 ghost use Rattle.table.specs.Accepted.{ArcEnds, Accepted};
-ghost use Rattle.minimums.specs.BoundedTable.{lent_bounded};
+ghost use Rattle.minimums.specs.BoundedTable.{bounded_in};
 ghost use Rattle.chains.specs.Listing.{listing_checked, listing, Shows, handed_with, shown_by};
 
 use solver::Answer;
-use table::{Name, Verdict};
+use table::{LentTable, Name, Refusal};
 
 // What listing returns: what solving returns, and how many numbers of the list were filled.
 #[repr(C)]
-#[derive(Clone, Copy)]
+#[derive(Clone, Copy, Debug, PartialEq, Eq)]
 pub struct Listed {
     pub answer: Answer,
     pub filled: u32,
@@ -58,61 +58,57 @@ fn list_solved(
 
 // Solves an accepted table with room in rows of the call's own, and hands it over with its list.
 fn list_table(
-    n: u32,
-    s: u32,
-    t: u32,
+    table: &LentTable,
     stamp: u32,
-    tails: &[u32],
-    heads: &[u32],
-    capacities: &[u32],
     flow: &mut [u32],
     side: &mut [u8],
     work: &mut [u32],
     list: &mut [u32],
 ) -> Listed
-    requires accepted { Accepted (given_table n s t tails heads capacities) }
-    requires given_room { GivenRoom n capacities.now flow.old side.old work.old }
-    ensures { let table = lent_table n s t tails heads capacities in
+    requires accepted { Accepted (table_in table.now) }
+    requires given_room { GivenRoom table.now.nodes table.now.capacities.now flow.old side.old work.old }
+    ensures { let table = table_in table.now in
         shown_by result flow.new side.new work.new list.new ≡ listing_checked table stamp flow.old side.old work.old list.old }
 {
     let mut flows = [0u32; 4096];
     let mut marks = [0u8; 512];
     let mut own = [0u32; 4 * 512 + 2 * 4096 + 1];
-    let answer = solver::solve_table(
-        n, s, t, stamp, tails, heads, capacities, &mut flows, &mut marks, &mut own,
-    );
+    let answer = solver::solve_table(table, stamp, &mut flows, &mut marks, &mut own);
     list_solved(
-        n, s, t, tails, heads, answer, &flows, &marks, flow, side, work, list,
+        table.nodes,
+        table.source,
+        table.sink,
+        table.tails,
+        table.heads,
+        answer,
+        &flows,
+        &marks,
+        flow,
+        side,
+        work,
+        list,
     )
 }
 
 // Solves a table and lists its chains from source to sink, and its rings; or gives the first refusal, with nothing written.
 pub fn list_chains(
-    n: u32,
-    s: u32,
-    t: u32,
+    bounded: &LentBounded,
     stamp: u32,
-    tails: &[u32],
-    heads: &[u32],
-    capacities: &[u32],
-    minimums: &[u32],
     flow: &mut [u32],
     side: &mut [u8],
     work: &mut [u32],
     list: &mut [u32],
 ) -> Listed
-    ensures exact { let table = lent_bounded n s t tails heads capacities minimums in
+    ensures exact { let table = bounded_in bounded.now in
         shown_by result flow.new side.new work.new list.new ≡ listing table stamp flow.old side.old work.old list.old }
-    ensures shows { result.answer.refusal ≡ 0 → Shows (lent_table n s t tails heads capacities) (shown_by result flow.new side.new work.new list.new) }
+    ensures shows { result.answer.refusal ≡ 0 → Shows (table_in bounded.now.table) (shown_by result flow.new side.new work.new list.new) }
 {
-    let room = solver::has_room(n, capacities.len(), flow.len(), side.len(), work.len());
-    match minimums::plain_check(n, tails, heads, capacities, minimums, s, t, room) {
-        Verdict::Refused(name, place) => Listed {
+    let room = solver::has_room(&bounded.table, flow.len(), side.len(), work.len());
+    match minimums::plain_check(bounded, room) {
+        Err(refusal) => Listed {
             answer: solver::refused(name, place),
             filled: 0,
         },
-        Verdict::Fine => list_table(
-            n, s, t, stamp, tails, heads, capacities, flow, side, work, list,
-        ),
+        Ok(()) => list_table(&bounded.table, stamp, flow, side, work, list),
     }
 }

@@ -11,7 +11,7 @@ use borrow.Author.Tests.{le-leb, eqb-true, eqb-false}
 use Rattle.rows.proofs.Sums.{by_test}
 use Rattle.table.specs.declared.Name.TheVariants.{Impossible as ImpossibleName}
 use Rattle.table.specs.Table.{arcs}
-use Rattle.table.specs.Checks.{is_fine, fine, refused, Verdict}
+use Rattle.table.specs.Checks.{is_fine, no_refusal, refused, Verdict}
 use Rattle.minimums.specs.BoundedTable.{BoundedTable, AcceptedBounded}
 use Rattle.minimums.specs.Checks.{plain}
 use Rattle.minimums.proofs.Accepting.{plain_check_lem}
@@ -27,7 +27,7 @@ use Rattle.counter.specs.Desk.{zeros, left_text, text_by, Printed, Passes}
 use Rattle.counter.specs.Desk.{solved as of_solved, impossible as of_none}
 
 -- The one verdict that is fine.
-fine_is : (v : Verdict) → is_fine v ≡ true → v ≡ fine
+fine_is : (v : Verdict) → is_fine v ≡ true → v ≡ no_refusal
 fine_is (Ok _) e = refl
 fine_is (Err why) e = cc
 
@@ -54,15 +54,15 @@ module _ (b : BoundedTable) (ok : Passes b) where
         (le-leb (work_need b.table.nodes (arcs b.table)) (length work) (omega (arith, few_arcs, few_nodes)))
 
     -- so no check refuses it,
-    passes : bounded_verdict b (length flow) (length side) (length work) ≡ fine
+    passes : bounded_verdict b (length flow) (length side) (length work) ≡ no_refusal
     passes = fine_is (bounded_verdict b (length flow) (length side) (length work)) (rw room ok)
 
     -- and where all minimums are 0 it is solved.
     pub is_solved : plain b ≡ true → solving b.table 0 flow side work ≡ solved b.table 0 flow side work
     is_solved all =
-        let fine : fine ≡ solving_verdict b.table (length flow) (length side) (length work)
+        let fine : no_refusal ≡ solving_verdict b.table (length flow) (length side) (length work)
         = sym (sym (plain_check_lem b (has_room b.table.nodes (arcs b.table) (length flow) (length side) (length work)) all) ∙ passes) in
-        sym (fine_solving b.table 0 flow side work fine fine refl (solved b.table 0 flow side work) refl)
+        sym (fine_solving b.table 0 flow side work no_refusal fine refl (solved b.table 0 flow side work) refl)
 
     -- What was solved refuses nothing.
     solved_fine : (solved b.table 0 flow side work).answer.refusal ≡ 0

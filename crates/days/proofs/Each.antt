@@ -22,7 +22,7 @@ use Rattle.days.proofs.Solvings.{plain_meets}
 use Rattle.days.proofs.Starting.{fine_ready}
 use Rattle.tally.proofs.Summing.{summed_same}
 use Rattle.days.proofs.Course.{held_at, alone, After, after_days}
-use Rattle.table.specs.Checks.{fine, refused, Verdict}
+use Rattle.table.specs.Checks.{no_refusal, refused, Verdict}
 
 -- ---- nine numbers read back
 
@@ -98,11 +98,11 @@ module _ (d : Days) (flow side work answers : List ℕ) (v : Verdict) (found : v
       (rw (← found, e) (ap (λ (m : Month). month_left m flow side work answers) f), λ none. absurd (number_positive name (sym (ap (λ (m : Month). m.refusal) f) ∙ none)))
 
   -- Where they do not, the month is ready,
-  pub fine_is_ready : v ≡ fine → Ready d (length flow) (length side) (length answers)
+  pub fine_is_ready : v ≡ no_refusal → Ready d (length flow) (length side) (length answers)
   fine_is_ready e = fine_ready d (length flow) (length side) (length answers) (sym found ∙ e)
 
   -- and the sums and rows after the last day are its promise.
-  pub fine_promise : v ≡ fine → (h : Held) → h ≡ first_days d (tables d) (held no_tally flow side work answers) → (r : Month) → r ≡ month_sums h.tally
+  pub fine_promise : v ≡ no_refusal → (h : Held) → h ≡ first_days d (tables d) (held no_tally flow side work answers) → (r : Month) → r ≡ month_sums h.tally
       → Promised d flow side work answers (month_left r h.flow h.side h.work h.answers)
   unfolding month month_as
   fine_promise e h same r f = (

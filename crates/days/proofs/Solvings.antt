@@ -11,7 +11,7 @@ use lib.ListN.{length, drop, length-append, length-drop, length-replicate, repli
 use Rattle.rows.specs.Row.{at_place, cleared}
 use Rattle.rows.proofs.Sums.{both_true}
 use Rattle.table.specs.Table.{Table, arcs, network_of}
-use Rattle.table.specs.Checks.{is_fine, or_else, fine, refused, Verdict}
+use Rattle.table.specs.Checks.{is_fine, or_else, no_refusal, refused, Verdict}
 use Rattle.table.specs.Refusals.{number_of}
 use Rattle.table.specs.Accepted.{Accepted}
 use Rattle.table.specs.declared.Name.{Name}
@@ -51,11 +51,11 @@ module _ (b : BoundedTable) (stamp : ℕ) (flow side work : List ℕ) where
   verdict = plain_verdict b (length flow) (length side) (length work)
 
   -- Where it refuses nothing the table is accepted,
-  pub plain_accepted : verdict ≡ fine → Accepted t
+  pub plain_accepted : verdict ≡ no_refusal → Accepted t
   plain_accepted e = (plain_accepts b _ (ap is_fine e)).0
 
   -- and the rows have room.
-  pub plain_roomy : verdict ≡ fine → Roomy t.nodes (arcs t) (length flow) (length side) (length work)
+  pub plain_roomy : verdict ≡ no_refusal → Roomy t.nodes (arcs t) (length flow) (length side) (length work)
   plain_roomy e = room_roomy _ _ _ _ _ (plain_accepts b _ (ap is_fine e)).1
 
   -- Where it refuses, that is the answer, and every row stays.
@@ -65,7 +65,7 @@ module _ (b : BoundedTable) (stamp : ℕ) (flow side work : List ℕ) where
   refused_plain name place e f = rw e (ap (λ (a : Answer). left a flow side work) f)
 
   -- Where it does not, what is left is the solved table's.
-  pub fine_plain : verdict ≡ fine → {l : Left} → l ≡ solved t stamp flow side work → l ≡ plain_solving b stamp flow side work
+  pub fine_plain : verdict ≡ no_refusal → {l : Left} → l ≡ solved t stamp flow side work → l ≡ plain_solving b stamp flow side work
   unfolding plain_solving solving_as
   fine_plain e f = rw e f
 
@@ -165,12 +165,12 @@ module _ (b : BoundedTable) (stamp : ℕ) (flow side work : List ℕ) where
       rw (plain_check_lem b (has_room t.nodes (arcs t) (length flow) (length side) (length work)) zeros, all)
       (ap (λ (v : Verdict). solving_as v t stamp flow side work) (or_fine (solving_verdict t (length flow) (length side) (length work))))
     where
-      or_fine : (v : Verdict) → or_else v fine ≡ v
+      or_fine : (v : Verdict) → or_else v no_refusal ≡ v
       or_fine (Ok _) = refl
       or_fine (Err why) = refl
 
   -- With a minimum above 0, where the table's own checks refuse nothing, it is BOUNDED (21), and every row stays.
-  pub plain_bounded : bounded_check b (has_room t.nodes (arcs t) (length flow) (length side) (length work)) ≡ fine → all_zero b.minimums ≡ false
+  pub plain_bounded : bounded_check b (has_room t.nodes (arcs t) (length flow) (length side) (length work)) ≡ no_refusal → all_zero b.minimums ≡ false
       → plain_solving b stamp flow side work ≡ left (refusal Bounded 0) flow side work
   unfolding plain_solving solving_as or_else
   plain_bounded fine some = rw (fine, some)

@@ -8,7 +8,7 @@ use native.Mathlib.Omega.{arith}
 use borrow.Author.Tests.{lt-ltb, le-ltb, ltb-false, leb-true, eqb-true, not-false}
 use lib.ListN.{length, get_or, get_or-eq_default}
 use Rattle.rows.proofs.Sums.{by_equal, both_true}
-use Rattle.table.specs.Checks.{differ, is_fine, fine}
+use Rattle.table.specs.Checks.{differ, is_fine, no_refusal}
 use Rattle.table.proofs.Faults.{passed, neither}
 use Rattle.minimums.specs.Checks.{differ_four}
 use Rattle.days.specs.Days.{Days, tables, start_of, marks_at}
@@ -64,7 +64,7 @@ last_of_four pa pf bf qc qf re = rw (← pa, pf, bf, ← qc, qf) re
 -- ---- the verdict
 
 -- A month that no check refuses is ready.
-pub fine_ready : (d : Days) (flow side answers : ℕ) → month_verdict d flow side answers ≡ fine → Ready d flow side answers
+pub fine_ready : (d : Days) (flow side answers : ℕ) → month_verdict d flow side answers ≡ no_refusal → Ready d flow side answers
 unfolding verdict_of rows_differ differ_four has_month_room
 fine_ready d flow side answers e =
     let (few, rest) = passed _ _ _ _ (ap is_fine e) in

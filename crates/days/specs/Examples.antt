@@ -2,7 +2,7 @@
 use Rattle.std.specs.Prelude.{◌≡◌, refl, List, [], ◌∷◌, ◌++◌, ℕ, replicate}
 use Rattle.rows.specs.Sum.{sum}
 use Rattle.network.specs.Network.{inflow, outflow}
-use Rattle.table.specs.Checks.{outside, differ, bad_ends, arc_fault, or_else, in_order, fine, refused}
+use Rattle.table.specs.Checks.{outside, differ, bad_ends, arc_fault, or_else, in_order, no_refusal, refused}
 use Rattle.table.specs.declared.Name.TheVariants.{Rows, Room, Starts}
 use Rattle.minimums.specs.Checks.{differ_four, bounded_sizes, bounded_fault, first_bounded_fault, all_zero}
 use Rattle.reach.specs.Side.{side_from}
@@ -21,11 +21,11 @@ abbrev two : (starts minimums : List ℕ) → Days
 two starts minimums = days_of starts (2 ∷ 2 ∷ []) (1 ∷ 1 ∷ []) (2 ∷ 2 ∷ []) (7 ∷ 8 ∷ []) (1 ∷ 1 ∷ []) (2 ∷ 2 ∷ []) (3 ∷ 4 ∷ []) minimums
 
 -- Each day has one arc; the first day may have none, or start behind earlier places.
-one_each : month_verdict (two (0 ∷ 1 ∷ []) (0 ∷ 0 ∷ [])) 2 1024 18 ≡ fine
+one_each : month_verdict (two (0 ∷ 1 ∷ []) (0 ∷ 0 ∷ [])) 2 1024 18 ≡ no_refusal
 unfolding verdict_of rows_differ starts_fall has_month_room differ differ_four
 one_each = refl
 
-behind_earlier_places : month_verdict (two (1 ∷ 1 ∷ []) (0 ∷ 0 ∷ [])) 2 1024 18 ≡ fine
+behind_earlier_places : month_verdict (two (1 ∷ 1 ∷ []) (0 ∷ 0 ∷ [])) 2 1024 18 ≡ no_refusal
 unfolding verdict_of rows_differ starts_fall has_month_room differ differ_four
 behind_earlier_places = refl
 

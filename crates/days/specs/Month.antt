@@ -1,6 +1,6 @@
 -- Document 02, CR 10: what a month in one call answers, and what the lent rows hold afterwards.
 use Rattle.std.specs.Prelude.{ℕ, zero, suc, ◌+◌, ◌*◌, Bool, false, not, ◌&&◌, ◌||◌, List, ltb, leb, length, get_or, Ok, Err}
-use Rattle.table.specs.Checks.{differ, refuse_if, fine, Verdict}
+use Rattle.table.specs.Checks.{differ, refuse_if, no_refusal, Verdict}
 use Rattle.table.specs.Refusals.{number_of}
 use Rattle.table.specs.declared.Name.{Name}
 use Rattle.table.specs.declared.Name.TheVariants.{Rows, Room, Many, Starts}
@@ -32,7 +32,7 @@ verdict_of starts nodes sources sinks stamps tails heads capacities minimums flo
     refuse_if (ltb 31 (length starts)) Many 0
     (refuse_if (rows_differ (length starts) nodes sources sinks stamps tails heads capacities minimums) Rows 0
     (refuse_if (starts_fall starts capacities (length starts)) Starts 0
-    (refuse_if (not (has_month_room (length starts) capacities flow side answers)) Room 0 fine)))
+    (refuse_if (not (has_month_room (length starts) capacities flow side answers)) Room 0 no_refusal)))
 
 -- The verdict of a month's days.
 abbrev pub month_verdict : Days → (flow side answers : ℕ) → Verdict

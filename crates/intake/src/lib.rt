@@ -2,34 +2,21 @@
 #![tactic(auto)]
 
 ghost use Rattle.std.specs.Prelude.{◌≡◌};
-ghost use Rattle.minimums.specs.BoundedTable.{lent_bounded};
+ghost use Rattle.minimums.specs.BoundedTable.{bounded_in};
 ghost use Rattle.intake.specs.Verdict.{text_verdict};
 
-use table::{Name, Verdict};
+use table::{LentTable, Name, Refusal};
 
 // The first refusal before a text of this length is read against a table, if any; `room` is whether the row that its caller lends is long enough.
-pub fn text_verdict(
-    n: u32,
-    s: u32,
-    t: u32,
-    tails: &[u32],
-    heads: &[u32],
-    capacities: &[u32],
-    minimums: &[u32],
-    text: usize,
-    room: bool,
-) -> Verdict
-    ensures { result ≡ text_verdict (lent_bounded n s t tails heads capacities minimums) text room }
+pub fn text_verdict(bounded: &LentBounded, text: usize, room: bool) -> Result<(), Refusal>
+    ensures { result ≡ text_verdict (bounded_in bounded.now) text room }
 {
     if 1048576 < text {
-        return Verdict::Refused(Name::Long, 0);
+        return Err(Name::Long.at(0));
     }
-    let found = minimums::plain_check(n, tails, heads, capacities, minimums, s, t, true);
-    if !table::is_fine(found) {
-        return found;
-    }
+    minimums::plain_check(bounded, true)?;
     if room {
-        return Verdict::Fine;
+        return Ok(());
     }
-    Verdict::Refused(Name::Room, 0)
+    Err(Name::Room.at(0))
 }

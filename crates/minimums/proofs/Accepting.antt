@@ -8,7 +8,7 @@ use lib.Dec.{eqb}
 use lib.ListN.{length}
 use Rattle.rows.proofs.Sums.{both_true}
 use Rattle.table.specs.Table.{arcs}
-use Rattle.table.specs.Checks.{is_fine, or_else, check_of, fine, Verdict}
+use Rattle.table.specs.Checks.{is_fine, or_else, check_of, no_refusal, Verdict}
 use Rattle.table.specs.Accepted.{Accepted}
 use Rattle.table.proofs.Faults.{passed}
 use Rattle.table.proofs.Accepts.{both_fine, check_accepts}
@@ -18,7 +18,7 @@ use Rattle.minimums.proofs.Faults.{check_with, bounded_accepts}
 use Rattle.minimums.proofs.Zeros.{all_zero_at}
 
 -- A verdict that refuses nothing.
-fine_is : (v : Verdict) → is_fine v ≡ true → v ≡ fine
+fine_is : (v : Verdict) → is_fine v ≡ true → v ≡ no_refusal
 fine_is (Ok _) e = refl
 fine_is (Err why) e = absurd (false≢true e)
 
@@ -39,7 +39,7 @@ module _ (b : BoundedTable) (room : Bool) (passes : is_fine (plain_check b room)
       ∙ not-false (all_zero b.minimums) (passed _ _ _ _ zeros).0
 
   -- Document 01's checks refuse nothing,
-  pub plain_fine : check_of b.table room ≡ fine
+  pub plain_fine : check_of b.table room ≡ no_refusal
   plain_fine = sym (plain_check_lem b room plain_zeros) ∙ fine_is (bounded_check b room) (both_fine (bounded_check b room) _ passes).0
 
   -- so the table is accepted and there was room.

@@ -12,7 +12,7 @@ use Rattle.rows.specs.Row.{at_place}
 use Rattle.table.specs.Table.{Table, arcs}
 use Rattle.table.specs.declared.Name.{Name}
 use Rattle.table.specs.declared.Name.TheVariants.{Nodes, Rows, Arcs, Ends, Room, Node, Loop, Capacity, Minimum}
-use Rattle.table.specs.Checks.{is_fine, refuse_if, outside, differ, bad_ends, or_else, in_order, sizes_of, arc_fault, first_fault, check_of, fine, refused, Verdict}
+use Rattle.table.specs.Checks.{is_fine, refuse_if, outside, differ, bad_ends, or_else, in_order, sizes_of, arc_fault, first_fault, check_of, no_refusal, refused, Verdict}
 use Rattle.table.proofs.Faults.{or_else_fine, passed, neither, in_order_sizes}
 use Rattle.table.proofs.Accepts.{sizes_fine, both_fine, check_accepts}
 use Rattle.minimums.specs.BoundedTable.{BoundedTable, AcceptedBounded}
@@ -35,7 +35,7 @@ module _ (n tails heads capacities minimums s t : ℕ) where
   pub sizes_three : capacities ≡ minimums → sizes_of n tails heads capacities s t ≡ bounded_sizes n tails heads capacities minimums s t
   unfolding bounded_sizes sizes_of differ_four
   sizes_three e =
-      ap (λ x. refuse_if (outside 2 512 n) Nodes 0 (refuse_if x Rows 0 (refuse_if (ltb 4096 tails) Arcs 0 (refuse_if (bad_ends n s t) Ends 0 fine))))
+      ap (λ x. refuse_if (outside 2 512 n) Nodes 0 (refuse_if x Rows 0 (refuse_if (ltb 4096 tails) Arcs 0 (refuse_if (bad_ends n s t) Ends 0 no_refusal))))
       (sym (ap (λ x. differ tails heads capacities || not x) (eq-eqb capacities minimums e) ∙ or_false (differ tails heads capacities)))
 
   -- Else NODES,
@@ -53,14 +53,14 @@ module _ (n tails heads capacities minimums s t : ℕ) where
   unfolding bounded_sizes outside differ_four
   sizes_rows h l ne =
       rw (le-ltb n 2 h, le-ltb 512 n l)
-      (ap (λ x. refuse_if x Rows 0 (refuse_if (ltb 4096 tails) Arcs 0 (refuse_if (bad_ends n s t) Ends 0 fine)))
+      (ap (λ x. refuse_if x Rows 0 (refuse_if (ltb 4096 tails) Arcs 0 (refuse_if (bad_ends n s t) Ends 0 no_refusal)))
       (sym (ap (λ x. differ tails heads capacities || not x) (ne_eqb capacities minimums ne) ∙ or_true (differ tails heads capacities))))
 
   -- Sizes that are not refused are those of a table, with as many minimums as capacities.
   pub bounded_sizes_fine : is_fine (bounded_sizes n tails heads capacities minimums s t) ≡ true → capacities ≡ minimums
   unfolding bounded_sizes differ_four
   bounded_sizes_fine e =
-      let last : Verdict = refuse_if (ltb 4096 tails) Arcs 0 (refuse_if (bad_ends n s t) Ends 0 fine) in
+      let last : Verdict = refuse_if (ltb 4096 tails) Arcs 0 (refuse_if (bad_ends n s t) Ends 0 no_refusal) in
       let rest = (passed (outside 2 512 n) Nodes 0 (refuse_if (differ tails heads capacities || not (eqb capacities minimums)) Rows 0 last) e).1 in
       let rows = (passed (differ tails heads capacities || not (eqb capacities minimums)) Rows 0 last rest).0 in
       eqb-true capacities minimums (not-false _ (neither (differ tails heads capacities) (not (eqb capacities minimums)) rows).1)
@@ -69,12 +69,12 @@ module _ (n tails heads capacities minimums s t : ℕ) where
 
 -- At this place, if at all.
 data At (place : ℕ) : Verdict → Type 0 where
-  passes : At place fine
+  passes : At place no_refusal
   there : (name : Name) → At place (refused name place)
 
 -- At one of these places, if at all.
 data Within (from to : ℕ) : Verdict → Type 0 where
-  nowhere : Within from to fine
+  nowhere : Within from to no_refusal
   between : (name : Name) (place : ℕ) → from ≤ place → place < to → Within from to (refused name place)
 
 -- A test refuses at its place.
@@ -128,14 +128,14 @@ end_later place e m (Err why) (between _ _ l h) is = (is, omega arith)
 one_more : (place e c l m : ℕ) (cs ls : List ℕ) (w v b : Verdict) → At place w → Within (suc place) (suc place + m) v
     → e ≡ end_of (or_else w v) (place + suc m) → {a : Verdict} → FirstAbove place e (c ∷ cs) (l ∷ ls) a
     → ((x : Verdict) → e ≡ end_of v (suc place + m) → FirstAbove (suc place) e cs ls x → or_else x v ≡ b)
-    → or_else a (or_else w v) ≡ or_else (or_else w (refuse_if (ltb c l) Minimum place fine)) b
+    → or_else a (or_else w v) ≡ or_else (or_else w (refuse_if (ltb c l) Minimum place no_refusal)) b
 unfolding or_else
 one_more place e c l m cs ls (Err why) v b (there _) r is (none each) rest = refl
 one_more place e c l m cs ls (Err why) v b (there _) r is (first k at so h above lower) rest = absurd (omega arith)
 one_more place e c l m cs ls (Ok _) v b passes r is (none each) rest =
     let (end, on) = end_later place e m v r is in
     let here : l ≤ c = each 0 (omega arith) in
-    rw (le-ltb c l here) (rest fine end (none (λ k h. each (suc k) (omega arith))))
+    rw (le-ltb c l here) (rest no_refusal end (none (λ k h. each (suc k) (omega arith))))
 one_more place e c l m cs ls (Ok _) v b passes r is (first zero at so h above lower) rest =
     let same : at ≡ place = omega arith in
     rw (lt-ltb c l above) (ap (refused Minimum) same)
@@ -174,7 +174,7 @@ module _ (t : Table) (ls : List ℕ) where
   four = first_bounded_fault t.nodes 0 t.tails t.heads t.capacities ls
 
   -- By what the sizes say and whether there is room.
-  by_sizes : (v : Verdict) (room : Bool) → At 0 v → (v ≡ fine → sizes ≡ fine) → length ls ≡ arcs t
+  by_sizes : (v : Verdict) (room : Bool) → At 0 v → (v ≡ no_refusal → sizes ≡ no_refusal) → length ls ≡ arcs t
       → {a : Verdict} → FirstAbove 0 (end_of (in_order v room three) (arcs t)) t.capacities ls a → or_else a (in_order v room three) ≡ in_order v room four
   unfolding in_order or_else
   by_sizes (Err why) room (there _) so many above = none_before t.capacities ls (refused why.name 0) above
@@ -201,7 +201,7 @@ module _ (t : Table) (ls : List ℕ) where
       ∙ check_with room (sym many ∙ ap length (sym caps)) (subst₂ (λ x y. FirstAbove 0 x y ls a) (e ∙ ap₂ end_of is (ap length (sym caps))) (sym caps) above)
 
   -- The arcs before what three rows refuse are few, and no more than there are.
-  ends_by : (v : Verdict) (room : Bool) → At 0 v → (v ≡ fine → sizes ≡ fine) → (end_of (in_order v room three) (arcs t) ≤ arcs t) × (end_of (in_order v room three) (arcs t) ≤ 4096)
+  ends_by : (v : Verdict) (room : Bool) → At 0 v → (v ≡ no_refusal → sizes ≡ no_refusal) → (end_of (in_order v room three) (arcs t) ≤ arcs t) × (end_of (in_order v room three) (arcs t) ≤ 4096)
   unfolding in_order or_else
   ends_by (Err why) room (there _) so = (omega arith, omega arith)
   ends_by (Ok _) false passes so = (omega arith, omega arith)
@@ -266,12 +266,12 @@ unfolding in_order
 bounded_accepts b room e =
     let t = b.table in
     let sizes : Verdict = bounded_sizes t.nodes (length t.tails) (length t.heads) (length t.capacities) (length b.minimums) t.source t.sink in
-    let (fine, rest) = both_fine sizes _ e in
+    let (no_refusal, rest) = both_fine sizes _ e in
     let (roomy, each) = passed _ _ _ _ rest in
     let same : length t.capacities ≡ length b.minimums
-    = bounded_sizes_fine t.nodes (length t.tails) (length t.heads) (length t.capacities) (length b.minimums) t.source t.sink fine in
+    = bounded_sizes_fine t.nodes (length t.tails) (length t.heads) (length t.capacities) (length b.minimums) t.source t.sink no_refusal in
     let three : is_fine (sizes_of t.nodes (length t.tails) (length t.heads) (length t.capacities) t.source t.sink) ≡ true
-    = ap is_fine (sizes_three t.nodes (length t.tails) (length t.heads) (length t.capacities) (length b.minimums) t.source t.sink same) ∙ fine in
+    = ap is_fine (sizes_three t.nodes (length t.tails) (length t.heads) (length t.capacities) (length b.minimums) t.source t.sink same) ∙ no_refusal in
     let lengths = sizes_fine t.nodes (length t.tails) (length t.heads) (length t.capacities) t.source t.sink three in
     let accepted = (check_accepts t true (ap is_fine (or_else_fine _ _ three) ∙ faults_fine t.nodes 0 t.tails t.heads t.capacities b.minimums (sym same) each)).0 in (
       record {

@@ -9,7 +9,7 @@ use borrow.Author.Tests.{eq-eqb}
 use lib.Dec.{eqb, ltb}
 use lib.ListN.{length-map}
 use Rattle.table.specs.Refusals.{number_of, refusal_in}
-use Rattle.table.specs.Checks.{refuse_if, outside, differ, bad_ends, arc_fault, or_else, in_order, fine, Verdict}
+use Rattle.table.specs.Checks.{refuse_if, outside, differ, bad_ends, arc_fault, or_else, in_order, no_refusal, Verdict}
 use Rattle.table.specs.declared.Name.{Name}
 use Rattle.table.specs.declared.Name.TheVariants.{Nodes, Arcs, Ends, Room, Node, Loop, Capacity, Minimum}
 use Rattle.minimums.specs.declared.Arc.{Arc}
@@ -39,7 +39,7 @@ sizes_rowless n tails heads capacities minimums s t e f g =
     rw (eq-eqb tails heads e, eq-eqb tails capacities f, eq-eqb capacities minimums g)
     (unless (outside 2 512 n) Nodes 0 _ (λ h. omega arith)
     (unless (ltb 4096 tails) Arcs 0 _ (λ h. omega arith)
-    (unless (bad_ends n s t) Ends 0 fine (λ h. omega arith) (λ h. omega arith))))
+    (unless (bad_ends n s t) Ends 0 no_refusal (λ h. omega arith) (λ h. omega arith))))
 
 -- An arc's fault.
 arc_rowless : (n place tail head capacity minimum : ℕ) → Rowless (bounded_fault n place tail head capacity minimum)
@@ -48,8 +48,8 @@ arc_rowless n place tail head capacity minimum =
     either (arc_fault n place tail head capacity) _
     (unless (outside 1 n tail || outside 1 n head) Node place _ (λ h. omega arith)
     (unless (eqb tail head) Loop place _ (λ h. omega arith)
-    (unless (ltb 1000000 capacity) Capacity place fine (λ h. omega arith) (λ h. omega arith))))
-    (unless (ltb capacity minimum) Minimum place fine (λ h. omega arith) (λ h. omega arith))
+    (unless (ltb 1000000 capacity) Capacity place no_refusal (λ h. omega arith) (λ h. omega arith))))
+    (unless (ltb capacity minimum) Minimum place no_refusal (λ h. omega arith) (λ h. omega arith))
 
 -- The first arc with a fault.
 arcs_rowless : (n place : ℕ) (ts hs cs ls : List ℕ) → Rowless (first_bounded_fault n place ts hs cs ls)

@@ -1,6 +1,6 @@
 -- Worked examples of the checks, by computation.
 use Rattle.std.specs.Prelude.{◌≡◌, refl, true, false, [], ◌∷◌}
-use Rattle.table.specs.Checks.{outside, differ, bad_ends, arc_fault, or_else, in_order, fine, refused}
+use Rattle.table.specs.Checks.{outside, differ, bad_ends, arc_fault, or_else, in_order, no_refusal, refused}
 use Rattle.table.specs.declared.Name.TheVariants.{Rows, Room, Capacity, Minimum}
 use Rattle.minimums.specs.BoundedTable.{bounded_of}
 use Rattle.minimums.specs.Checks.{differ_four, bounded_sizes, bounded_fault, first_bounded_fault, bounded_check}
@@ -26,6 +26,6 @@ unfolding bounded_sizes differ_four outside differ or_else in_order
 rows_first = refl
 
 -- A minimum as large as its capacity is fine.
-minimum_fine : bounded_check (bounded_of 3 1 3 (1 ∷ 2 ∷ []) (2 ∷ 3 ∷ []) (3 ∷ 1 ∷ []) (3 ∷ 1 ∷ [])) true ≡ fine
+minimum_fine : bounded_check (bounded_of 3 1 3 (1 ∷ 2 ∷ []) (2 ∷ 3 ∷ []) (3 ∷ 1 ∷ []) (3 ∷ 1 ∷ [])) true ≡ no_refusal
 unfolding bounded_sizes differ_four first_bounded_fault bounded_fault arc_fault outside differ bad_ends or_else in_order
 minimum_fine = refl

@@ -5,7 +5,7 @@ ghost use Rattle.std.specs.Prelude.{◌≡◌, ℕ, ◌+◌, ◌≤◌, ◌<◌,
 ghost use Rattle.rows.specs.Row.{part};
 ghost use Rattle.parts.specs.Placed.{placed};
 ghost use Rattle.table.specs.Checks.{differ};
-ghost use Rattle.minimums.specs.BoundedTable.{bounded_of, lent_bounded};
+ghost use Rattle.minimums.specs.BoundedTable.{bounded_of, bounded_in};
 ghost use Rattle.solver.specs.Solving.{left};
 ghost use Rattle.tally.specs.Sums.{no_tally};
 ghost use Rattle.verdicts.specs.Plain.{plain_solving};
@@ -16,34 +16,26 @@ ghost use Rattle.days.specs.Ready.{Ready, Countable};
 
 use days::Month;
 use solver::Answer;
-use table::{Name, Verdict};
+use table::{LentTable, Name, Refusal};
 use tally::Tally;
 
 // ---- one day
 
 // Solves a table that takes no minimum above 0, or gives the first refusal.
 fn solve_plain(
-    n: u32,
-    s: u32,
-    t: u32,
+    bounded: &LentBounded,
     stamp: u32,
-    tails: &[u32],
-    heads: &[u32],
-    capacities: &[u32],
-    minimums: &[u32],
     flow: &mut [u32],
     side: &mut [u8],
     work: &mut [u32],
 ) -> Answer
-    ensures { let table = lent_bounded n s t tails heads capacities minimums in
+    ensures { let table = bounded_in bounded.now in
         left result flow.new side.new work.new ≡ plain_solving table stamp flow.old side.old work.old }
 {
-    let room = solver::has_room(n, capacities.len(), flow.len(), side.len(), work.len());
-    match minimums::plain_check(n, tails, heads, capacities, minimums, s, t, room) {
-        Verdict::Refused(name, place) => solver::refused(name, place),
-        Verdict::Fine => solver::solve_table(
-            n, s, t, stamp, tails, heads, capacities, flow, side, work,
-        ),
+    let room = solver::has_room(&bounded.table, flow.len(), side.len(), work.len());
+    match minimums::plain_check(bounded, room) {
+        Err(refusal) => solver::refused(name, place),
+        Ok(()) => solver::solve_table(&bounded.table, stamp, flow, side, work),
     }
 }
 
@@ -59,39 +51,35 @@ fn start_of(starts: &[u32], j: usize, end: usize) -> usize
 
 // Solves the table of the arcs from a up to e, with that part of the flow row and 512 marks from `at` lent.
 fn solve_part(
-    n: u32,
-    s: u32,
-    t: u32,
+    bounded: &LentBounded,
     stamp: u32,
     a: usize,
     e: usize,
     at: usize,
-    tails: &[u32],
-    heads: &[u32],
-    capacities: &[u32],
-    minimums: &[u32],
     flow: &mut [u32],
     side: &mut [u8],
     work: &mut [u32],
 ) -> Answer
-    requires a_le_e { (a ≤ e) × (e ≤ length tails.now) × (e ≤ length heads.now) × (e ≤ length capacities.now)
-        × (e ≤ length minimums.now) }
+    requires a_le_e { (a ≤ e) × (e ≤ length bounded.now.table.tails.now) × (e ≤ length bounded.now.table.heads.now) × (e ≤ length bounded.now.table.capacities.now)
+        × (e ≤ length bounded.now.minimums.now) }
     requires e_in_bounds { (e ≤ length flow.old) × (at + 512 ≤ length side.old) }
-    ensures { let table = bounded_of n s t (part a e tails.now) (part a e heads.now)
-        (part a e capacities.now) (part a e minimums.now) in
+    ensures { let table = bounded_of bounded.now.table.nodes bounded.now.table.source bounded.now.table.sink (part a e bounded.now.table.tails.now) (part a e bounded.now.table.heads.now)
+        (part a e bounded.now.table.capacities.now) (part a e bounded.now.minimums.now) in
         let solved = plain_solving table stamp (part a e flow.old) (part at (at + 512) side.old) work.old in
         left result flow.new side.new work.new ≡ part_left a e at flow.old side.old solved }
 {
     let marks_end = at + 512;
     solve_plain(
-        n,
-        s,
-        t,
+        TODO(
+            bounded.table.nodes,
+            bounded.table.source,
+            bounded.table.sink,
+            &bounded.table.tails[a..e],
+            &bounded.table.heads[a..e],
+            &bounded.table.capacities[a..e],
+            &bounded.minimums[a..e],
+        ),
         stamp,
-        &tails[a..e],
-        &heads[a..e],
-        &capacities[a..e],
-        &minimums[a..e],
         &mut flow[a..e],
         &mut side[at..marks_end],
         work,
@@ -147,17 +135,13 @@ fn answer_day(
     let a = start_of(starts, j, capacities.len());
     let e = start_of(starts, j + 1, capacities.len());
     solve_part(
-        nodes[j],
-        sources[j],
-        sinks[j],
+        TODO(
+            nodes[j], sources[j], sinks[j], tails, heads, capacities, minimums,
+        ),
         stamps[j],
         a,
         e,
         512 * j,
-        tails,
-        heads,
-        capacities,
-        minimums,
         flow,
         side,
         work,
@@ -314,11 +298,11 @@ fn month_verdict(
     flow: usize,
     side: usize,
     answers: usize,
-) -> Verdict
+) -> Result<(), Refusal>
     ensures { result ≡ verdict_of starts.now nodes sources sinks stamps tails heads capacities minimums flow side answers }
 {
     if 31 < starts.len() {
-        return Verdict::Refused(Name::Many, 0);
+        return Err(Name::Many.at(0));
     }
     if do_rows_differ(
         starts.len(),
@@ -331,15 +315,15 @@ fn month_verdict(
         capacities,
         minimums,
     ) {
-        return Verdict::Refused(Name::Rows, 0);
+        return Err(Name::Rows.at(0));
     }
     if do_fall(starts, capacities) {
-        return Verdict::Refused(Name::Starts, 0);
+        return Err(Name::Starts.at(0));
     }
     if !has_month_room(starts.len(), capacities, flow, side, answers) {
-        return Verdict::Refused(Name::Room, 0);
+        return Err(Name::Room.at(0));
     }
-    Verdict::Fine
+    Ok(())
 }
 
 // The result of a refusal of the whole call.
@@ -348,7 +332,7 @@ fn refused_month(name: Name, place: u32) -> Month
 {
     Month {
         refusal: table::number(name),
-        place: place,
+        place,
         solved: 0,
         total: 0,
         day: 0,
@@ -404,8 +388,8 @@ pub fn solve_month(
         side.len(),
         answers.len(),
     ) {
-        Verdict::Refused(name, place) => refused_month(name, place),
-        Verdict::Fine => month_sums(solve_days(
+        Err(refusal) => refused_month(name, place),
+        Ok(()) => month_sums(solve_days(
             starts, nodes, sources, sinks, stamps, tails, heads, capacities, minimums, flow, side,
             work, answers,
         )),

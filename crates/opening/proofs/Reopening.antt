@@ -6,7 +6,7 @@ use Rattle.network.specs.Network.{Flow}
 use Rattle.network.proofs.Agree.{flow_agree}
 use Rattle.table.specs.Table.{Table, table_of, arcs, network_of}
 use Rattle.table.specs.Accepted.{Accepted}
-use Rattle.table.specs.Checks.{is_fine, or_else, fine, refused, Verdict}
+use Rattle.table.specs.Checks.{is_fine, or_else, no_refusal, refused, Verdict}
 use Rattle.table.specs.declared.Name.{Name}
 use Rattle.table.specs.Refusals.{refusal_in}
 use Rattle.table.proofs.Numbers.{number_positive}
@@ -160,13 +160,13 @@ module _ (t : Table) (stamp place new : ℕ) (flow side work : List ℕ) (v : Ve
   refused_change name at e r f = rw (← found, e) (ap (λ (a : Answer). left a flow side work) f)
 
   -- Where it does not, the call goes on.
-  pub fine_change : v ≡ fine → (l : Left) → l ≡ went_on (opened t place new) stamp flow side work
+  pub fine_change : v ≡ no_refusal → (l : Left) → l ≡ went_on (opened t place new) stamp flow side work
       → l ≡ opening_as (change_verdict t place new flow) (opened t place new) stamp flow side work
   unfolding opening_as
   fine_change e l f = rw (← found, e) f
 
   -- Then what it asks holds.
-  pub change_asks : v ≡ fine → Accepted t → (arcs t ≤ length flow) × (t.nodes ≤ length side) × (work_need t.nodes (arcs t) ≤ length work)
+  pub change_asks : v ≡ no_refusal → Accepted t → (arcs t ≤ length flow) × (t.nodes ≤ length side) × (work_need t.nodes (arcs t) ≤ length work)
       → Opens t place new flow (length side) (length work)
   change_asks e ok room =
       (change_opens t place new flow (length side) (length work) ok (record { for_flow = room.0; for_side = room.1; for_work = room.2 }) (ap is_fine (sym found ∙ e))).0
@@ -180,13 +180,13 @@ module _ (b : BoundedTable) (stamp place new : ℕ) (flow side work : List ℕ) 
   refused_own name at e r f = rw (← found, e) (ap (λ (a : Answer). left a flow side work) f)
 
   -- Where it does not, the table is accepted and the rows have room,
-  pub own_accepts : v ≡ fine → Accepted b.table × Roomy b.table.nodes (arcs b.table) (length flow) (length side) (length work)
+  pub own_accepts : v ≡ no_refusal → Accepted b.table × Roomy b.table.nodes (arcs b.table) (length flow) (length side) (length work)
   own_accepts e =
       let (ok, room) = plain_accepts b _ (ap is_fine (sym found ∙ e)) in
       (ok, room_roomy b.table.nodes (arcs b.table) (length flow) (length side) (length work) room)
 
   -- and the change decides.
-  pub fine_own : v ≡ fine → (l : Left) → l ≡ opening_as (change_verdict b.table place new flow) (opened b.table place new) stamp flow side work
+  pub fine_own : v ≡ no_refusal → (l : Left) → l ≡ opening_as (change_verdict b.table place new flow) (opened b.table place new) stamp flow side work
       → l ≡ opening b stamp place new flow side work
   unfolding opening opening_verdict or_else
   fine_own e l f = rw (← found, e) f
@@ -199,7 +199,7 @@ module _ (b : BoundedTable) (stamp place new : ℕ) (flow side work : List ℕ) 
   refused_opening name at e = rw (← found, e)
 
   -- Or the call goes on.
-  fine_opening : v ≡ fine → went_on (opened b.table place new) stamp flow side work ≡ opening b stamp place new flow side work
+  fine_opening : v ≡ no_refusal → went_on (opened b.table place new) stamp flow side work ≡ opening b stamp place new flow side work
   unfolding opening opening_as
   fine_opening e = rw (← found, e)
 
@@ -212,7 +212,7 @@ module _ (b : BoundedTable) (stamp place new : ℕ) (flow side work : List ℕ) 
       go (Ok _) e =
           let (opens, most) = fine_opens b place new flow (length side) (length work) (sym e) in
           subst (Reopens b.table (opened b.table place new) flow)
-          (fine_opening b stamp place new flow side work fine e refl ∙ sym same)
+          (fine_opening b stamp place new flow side work no_refusal e refl ∙ sym same)
           (went_reopens opens most stamp side work)
       go (Err why) e =
           absurd
@@ -225,7 +225,7 @@ module _ (b : BoundedTable) (stamp place new : ℕ) (flow side work : List ℕ) 
     where
       go : (v : Verdict) → v ≡ opening_verdict b place new flow (length side) (length work) → MaximumFlow b.table flow → ⊥
       go (Ok _) e most =
-          let zero = ap (λ (x : Left). x.answer.refusal) (fine_opening b stamp place new flow side work fine e refl ∙ sym same) in
+          let zero = ap (λ (x : Left). x.answer.refusal) (fine_opening b stamp place new flow side work no_refusal e refl ∙ sym same) in
           omega (arith, went_fine (opened b.table place new) stamp flow side work, zero, refused)
       go (Err why) e most =
           notmax_not b place new flow (length side) (length work)

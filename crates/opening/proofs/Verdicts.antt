@@ -5,7 +5,7 @@ use borrow.Author.Tests.{lt-leb, not-false}
 use Rattle.table.specs.Table.{Table, arcs, capacity}
 use Rattle.table.specs.Accepted.{Accepted}
 use Rattle.table.specs.Refusals.{number_of, refusal_in}
-use Rattle.table.specs.Checks.{is_fine, refuse_if, outside, bad_ends, arc_fault, or_else, in_order, fine, refused, Verdict}
+use Rattle.table.specs.Checks.{is_fine, refuse_if, outside, bad_ends, arc_fault, or_else, in_order, no_refusal, refused, Verdict}
 use Rattle.minimums.specs.BoundedTable.{BoundedTable}
 use Rattle.minimums.specs.Checks.{differ_four, bounded_sizes, bounded_fault, first_bounded_fault, bounded_check, all_zero, plain_check}
 use Rattle.minimums.proofs.Accepting.{plain_accepts}
@@ -47,7 +47,7 @@ module _ (t : Table) (place new : ℕ) (flow : List ℕ) where
         change_notmax e = rw (lt-leb (arcs t) place below, le-ltb 1000000 new small, le-ltb new (capacity t place) more, sym is ∙ e)
 
         -- Nothing of these.
-        pub change_fine : r ≡ true → fine ≡ change_verdict t place new flow
+        pub change_fine : r ≡ true → no_refusal ≡ change_verdict t place new flow
         unfolding change_verdict
         change_fine e = rw (lt-leb (arcs t) place below, le-ltb 1000000 new small, le-ltb new (capacity t place) more, sym is ∙ e)
 
@@ -61,7 +61,7 @@ change_opens t place new flow side work ok roomy changes =
     let (there, rest) = passed (leb (arcs t) place) Place place _ changes in
     let (small, rest_too) = passed (ltb 1000000 new) Capacity place _ rest in
     let (more, last) = passed (ltb new (capacity t place)) Lower 0 _ rest_too in
-    let (largest, none) = passed (not (is_maximum t flow)) NotMax 0 fine last in
+    let (largest, none) = passed (not (is_maximum t flow)) NotMax 0 no_refusal last in
     let most : MaximumFlow t flow = test_maximum t flow ok (not-false (is_maximum t flow) largest) in (
       record {
         accepted = ok;
@@ -77,7 +77,7 @@ change_opens t place new flow side work ok roomy changes =
     )
 
 -- Where nothing is refused, both hold.
-pub fine_opens : (b : BoundedTable) (place new : ℕ) (flow : List ℕ) (side work : ℕ) → opening_verdict b place new flow side work ≡ fine
+pub fine_opens : (b : BoundedTable) (place new : ℕ) (flow : List ℕ) (side work : ℕ) → opening_verdict b place new flow side work ≡ no_refusal
     → Opens b.table place new flow side work × MaximumFlow b.table flow
 unfolding opening_verdict
 fine_opens b place new flow side work fine =
@@ -108,10 +108,10 @@ low_faults n place (t ∷ ts) (h ∷ hs) [] minimums = omega arith
 low_faults n place (t ∷ ts) (h ∷ hs) (c ∷ cs) [] = omega arith
 low_faults n place (t ∷ ts) (h ∷ hs) (c ∷ cs) (l ∷ ls) =
     low_else (bounded_fault n place t h c l) (first_bounded_fault n (suc place) ts hs cs ls)
-    (low_else (arc_fault n place t h c) (refuse_if (ltb c l) Minimum place fine)
+    (low_else (arc_fault n place t h c) (refuse_if (ltb c l) Minimum place no_refusal)
     (low_if (outside 1 n t || outside 1 n h) Node place _ (omega arith)
-    (low_if (eqb t h) Loop place _ (omega arith) (low_if (ltb 1000000 c) Capacity place fine (omega arith) (omega arith))))
-    (low_if (ltb c l) Minimum place fine (omega arith) (omega arith)))
+    (low_if (eqb t h) Loop place _ (omega arith) (low_if (ltb 1000000 c) Capacity place no_refusal (omega arith) (omega arith))))
+    (low_if (ltb c l) Minimum place no_refusal (omega arith) (omega arith)))
     (low_faults n (suc place) ts hs cs ls)
 
 -- All of them.
@@ -121,17 +121,17 @@ low_check b room =
     let t = b.table in
     let sizes = bounded_sizes t.nodes (length t.tails) (length t.heads) (length t.capacities) (length b.minimums) t.source t.sink in
     let faults = first_bounded_fault t.nodes 0 t.tails t.heads t.capacities b.minimums in
-    low_else (bounded_check b room) (refuse_if (not (all_zero b.minimums)) Bounded 0 fine)
+    low_else (bounded_check b room) (refuse_if (not (all_zero b.minimums)) Bounded 0 no_refusal)
     (low_else sizes (refuse_if (not room) Room 0 faults)
     (low_if (outside 2 512 t.nodes) Nodes 0 _ (omega arith)
     (low_if (differ_four (length t.tails) (length t.heads) (length t.capacities) (length b.minimums)) Rows 0 _ (omega arith)
     (low_if (ltb 4096 (length t.tails)) Arcs 0 _ (omega arith)
-    (low_if (bad_ends t.nodes t.source t.sink) Ends 0 fine (omega arith) (omega arith)))))
+    (low_if (bad_ends t.nodes t.source t.sink) Ends 0 no_refusal (omega arith) (omega arith)))))
     (low_if (not room) Room 0 _ (omega arith) (low_faults t.nodes 0 t.tails t.heads t.capacities b.minimums)))
-    (low_if (not (all_zero b.minimums)) Bounded 0 fine (omega arith) (omega arith))
+    (low_if (not (all_zero b.minimums)) Bounded 0 no_refusal (omega arith) (omega arith))
 
 -- A change of an accepted table gives 23 only where the row is not a maximum flow.
-change_rank : (a b c d : Bool) (place : ℕ) → refusal_in (refuse_if a Place place (refuse_if b Capacity place (refuse_if c Lower 0 (refuse_if (not d) NotMax 0 fine)))) ≡ 23 → d ≡ false
+change_rank : (a b c d : Bool) (place : ℕ) → refusal_in (refuse_if a Place place (refuse_if b Capacity place (refuse_if c Lower 0 (refuse_if (not d) NotMax 0 no_refusal)))) ≡ 23 → d ≡ false
 change_rank true b c d place e = absurd (omega arith)
 change_rank false true c d place e = absurd (omega arith)
 change_rank false false true d place e = absurd (omega arith)

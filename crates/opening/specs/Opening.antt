@@ -2,7 +2,7 @@
 use Rattle.std.specs.Prelude.{◌≡◌, ℕ, not, List, ◌++◌, length, take, drop, nat_le, nat_lt, slice_set, Ok, Err}
 use Rattle.rows.specs.Row.{cleared}
 use Rattle.table.specs.Table.{Table, table_of, arcs, capacity, network_of}
-use Rattle.table.specs.Checks.{refuse_if, or_else, fine, Verdict}
+use Rattle.table.specs.Checks.{refuse_if, or_else, no_refusal, Verdict}
 use Rattle.table.specs.declared.Name.TheVariants.{Place, Capacity, Lower, NotMax}
 use Rattle.reach.specs.Side.{side_of}
 use Rattle.run.specs.Phase.{run, value, no_steps}
@@ -27,7 +27,7 @@ change_verdict t place new flow =
     refuse_if (nat_le (arcs t) place) Place place
     (refuse_if (nat_lt 1000000 new) Capacity place
     (refuse_if (nat_lt new (capacity t place)) Lower 0
-    (refuse_if (not (is_maximum t flow)) NotMax 0 fine)))
+    (refuse_if (not (is_maximum t flow)) NotMax 0 no_refusal)))
 
 -- The order: the old table's own refusals as for solving, BOUNDED, then these. Of side and work row only the lengths count.
 unfoldable pub opening_verdict : BoundedTable → (place capacity : ℕ) → (flow : List ℕ) → (side work : ℕ) → Verdict

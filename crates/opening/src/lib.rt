@@ -4,8 +4,8 @@
 ghost use Rattle.std.specs.Prelude.{◌≡◌, ℕ, ◌<◌, ◌≤◌, List, length, replicate, slice_set};
 ghost use Rattle.rows.specs.Row.{Node, at_place, at_node};
 ghost use Rattle.network.specs.Network.{Flow};
-ghost use Rattle.minimums.specs.BoundedTable.{lent_bounded};
-ghost use Rattle.table.specs.Table.{table_of, network_of, lent_table, given_table};
+ghost use Rattle.minimums.specs.BoundedTable.{bounded_in};
+ghost use Rattle.table.specs.Table.{table_of, network_of, table_in};
 ghost use Rattle.table.specs.Accepted.{ArcRows, Accepted};
 ghost use Rattle.reach.specs.Side.{marked, side_of};
 ghost use Rattle.start.specs.Sums.{sum_at};
@@ -17,7 +17,7 @@ ghost use Rattle.opening.specs.Opening.{opened, opened_answer, change_verdict, w
 ghost use Rattle.opening.specs.Steps.{Opens};
 
 use solver::Answer;
-use table::{Name, Verdict};
+use table::{LentTable, Name, Refusal};
 
 // ---- is it a maximum flow?
 
@@ -89,30 +89,22 @@ fn is_conserved(
 }
 
 // Whether the first m numbers of the row are a flow of the table.
-fn is_flow(
-    n: u32,
-    s: u32,
-    t: u32,
-    tails: &[u32],
-    heads: &[u32],
-    capacities: &[u32],
-    flow: &[u32],
-) -> bool
-    requires arc_rows { ArcRows n tails.now heads.now capacities.now }
-    requires capacities_in_bounds { length capacities.now ≤ length flow.now }
-    ensures { result ≡ is_flow (lent_table n s t tails heads capacities) flow.now }
+fn is_flow(table: &LentTable, flow: &[u32]) -> bool
+    requires arc_rows { ArcRows table.now.nodes table.now.tails.now table.now.heads.now table.now.capacities.now }
+    requires capacities_in_bounds { length table.now.capacities.now ≤ length flow.now }
+    ensures { result ≡ is_flow (table_in table.now) flow.now }
 {
-    if !is_within(capacities, flow) {
+    if !is_within(table.capacities, flow) {
         return false;
     }
     let mut entering = [0u64; 512];
     let mut leaving = [0u64; 512];
-    let nodes = n as usize;
+    let nodes = table.nodes as usize;
     is_conserved(
-        s,
-        t,
-        tails,
-        heads,
+        table.source,
+        table.sink,
+        table.tails,
+        table.heads,
         flow,
         &mut entering[..nodes],
         &mut leaving[..nodes],
@@ -120,83 +112,68 @@ fn is_flow(
 }
 
 // Whether the sink is on the side of the flow, which is marked in a row of n marks.
-fn is_sink_reached(
-    n: u32,
-    s: u32,
-    t: u32,
-    tails: &[u32],
-    heads: &[u32],
-    capacities: &[u32],
-    flow: &[u32],
-    lists: &[u32],
-    marks: &mut [u8],
-) -> bool
-    requires accepted { Accepted (given_table n s t tails heads capacities) }
-    requires in_work { InWork (given_table n s t tails heads capacities) lists.now }
-    requires capacities_in_bounds { (length capacities.now ≤ length flow.now) × (n ≤ length marks.old) }
-    ensures { result ≡ marked (side_of (lent_table n s t tails heads capacities) flow.now) t }
+fn is_sink_reached(table: &LentTable, flow: &[u32], lists: &[u32], marks: &mut [u8]) -> bool
+    requires accepted { Accepted (table_in table.now) }
+    requires in_work { InWork (table_in table.now) lists.now }
+    requires capacities_in_bounds { (length table.now.capacities.now ≤ length flow.now) × (table.now.nodes ≤ length marks.old) }
+    ensures { result ≡ marked (side_of (table_in table.now) flow.now) table.now.sink }
 {
-    reach::mark(n, s, tails, heads, capacities, flow, lists, marks);
-    marks[(t - 1) as usize] == 1
+    reach::mark(
+        table.nodes,
+        table.source,
+        table.tails,
+        table.heads,
+        table.capacities,
+        flow,
+        lists,
+        marks,
+    );
+    marks[(table.sink - 1) as usize] == 1
 }
 
 // Whether the first m numbers of the row are a maximum flow of an accepted table, whose lists stand in the row `lists`.
-fn is_maximum(
-    n: u32,
-    s: u32,
-    t: u32,
-    tails: &[u32],
-    heads: &[u32],
-    capacities: &[u32],
-    flow: &[u32],
-    lists: &[u32],
-) -> bool
-    requires accepted { Accepted (given_table n s t tails heads capacities) }
-    requires in_work { InWork (given_table n s t tails heads capacities) lists.now }
-    requires capacities_in_bounds { length capacities.now ≤ length flow.now }
-    ensures { result ≡ is_maximum (lent_table n s t tails heads capacities) flow.now }
+fn is_maximum(table: &LentTable, flow: &[u32], lists: &[u32]) -> bool
+    requires accepted { Accepted (table_in table.now) }
+    requires in_work { InWork (table_in table.now) lists.now }
+    requires capacities_in_bounds { length table.now.capacities.now ≤ length flow.now }
+    ensures { result ≡ is_maximum (table_in table.now) flow.now }
 {
-    if !is_flow(n, s, t, tails, heads, capacities, flow) {
+    if !is_flow(table, flow) {
         return false;
     }
     let mut marks = [0u8; 512];
-    !is_sink_reached(n, s, t, tails, heads, capacities, flow, lists, &mut marks)
+    !is_sink_reached(table, flow, lists, &mut marks)
 }
 
 // ---- the refusals
 
 // The first refusal of an accepted table's opening, if any: PLACE, CAPACITY, LOWER, NOTMAX. The table's lists stand in the row `lists`.
 fn change_verdict(
-    n: u32,
-    s: u32,
-    t: u32,
-    tails: &[u32],
-    heads: &[u32],
-    capacities: &[u32],
+    table: &LentTable,
     place: u32,
     capacity: u32,
     flow: &[u32],
     lists: &[u32],
-) -> Verdict
-    requires accepted { Accepted (given_table n s t tails heads capacities) }
-    requires in_work { InWork (given_table n s t tails heads capacities) lists.now }
-    requires capacities_in_bounds { length capacities.now ≤ length flow.now }
-    ensures { result ≡ change_verdict (lent_table n s t tails heads capacities) place capacity flow.now }
+) -> Result<(), Refusal>
+    requires accepted { Accepted (table_in table.now) }
+    requires in_work { InWork (table_in table.now) lists.now }
+    requires capacities_in_bounds { length table.now.capacities.now ≤ length flow.now }
+    ensures { result ≡ change_verdict (table_in table.now) place capacity flow.now }
 {
     let k = place as usize;
-    if capacities.len() <= k {
-        return Verdict::Refused(Name::Place, place);
+    if table.capacities.len() <= k {
+        return Err(Name::Place.at(place));
     }
     if 1000000 < capacity {
-        return Verdict::Refused(Name::Capacity, place);
+        return Err(Name::Capacity.at(place));
     }
-    if capacity < capacities[k] {
-        return Verdict::Refused(Name::Lower, 0);
+    if capacity < table.capacities[k] {
+        return Err(Name::Lower.at(0));
     }
-    if !is_maximum(n, s, t, tails, heads, capacities, flow, lists) {
-        return Verdict::Refused(Name::NotMax, 0);
+    if !is_maximum(table, flow, lists) {
+        return Err(Name::NotMax.at(0));
     }
-    Verdict::Fine
+    Ok(())
 }
 
 // ---- the new answer
@@ -209,7 +186,7 @@ fn answer_of(stamp: u32, value: u64) -> Answer
         refusal: 0,
         place: 0,
         stamp: std::num::wrapping_add_u32(stamp, 1),
-        value: value,
+        value,
         scale: 0,
         phases: 0,
         saturating: 0,
@@ -220,31 +197,52 @@ fn answer_of(stamp: u32, value: u64) -> Answer
 
 // Goes on from the flow of an accepted table, whose lists stand in the row `lists`. The flow row has just its m places; the minimums are 0.
 fn go_on_rows(
-    n: u32,
-    s: u32,
-    t: u32,
+    bounded: &LentBounded,
     stamp: u32,
-    tails: &[u32],
-    heads: &[u32],
-    capacities: &[u32],
-    minimums: &[u32],
     lists: &[u32],
     flow: &mut [u32],
     side: &mut [u8],
     work: &mut [u32],
 ) -> Answer
-    requires accepted { Accepted (given_table n s t tails heads capacities) }
-    requires minimums_value { minimums.now ≡ replicate (length capacities.now) 0 }
-    requires in_work { InWork (given_table n s t tails heads capacities) lists.now }
-    requires flow { Flow (network_of (given_table n s t tails heads capacities)) (at_place flow.old) }
-    requires flow_len { (length flow.old ≡ length capacities.now) × (n ≤ length side.old)
-        × (work_need n (length capacities.now) ≤ length work.old) }
-    ensures { left result flow.new side.new work.new ≡ went_on (lent_table n s t tails heads capacities) stamp flow.old side.old work.old }
+    requires accepted { Accepted (table_in bounded.now.table) }
+    requires minimums_value { bounded.now.minimums.now ≡ replicate (length bounded.now.table.capacities.now) 0 }
+    requires in_work { InWork (table_in bounded.now.table) lists.now }
+    requires flow { Flow (network_of (table_in bounded.now.table)) (at_place flow.old) }
+    requires flow_len { (length flow.old ≡ length bounded.now.table.capacities.now) × (bounded.now.table.nodes ≤ length side.old)
+        × (work_need bounded.now.table.nodes (length bounded.now.table.capacities.now) ≤ length work.old) }
+    ensures { left result flow.new side.new work.new ≡ went_on (table_in bounded.now.table) stamp flow.old side.old work.old }
 {
-    augment::go_on(n, s, t, tails, heads, capacities, minimums, flow, lists);
-    let value = start::value(tails, heads, flow, s);
-    reach::mark(n, s, tails, heads, capacities, flow, lists, side);
-    rows::clear(work, work::work_need(n, capacities.len()));
+    augment::go_on(
+        bounded.table.nodes,
+        bounded.table.source,
+        bounded.table.sink,
+        bounded.table.tails,
+        bounded.table.heads,
+        bounded.table.capacities,
+        bounded.minimums,
+        flow,
+        lists,
+    );
+    let value = start::value(
+        bounded.table.tails,
+        bounded.table.heads,
+        flow,
+        bounded.table.source,
+    );
+    reach::mark(
+        bounded.table.nodes,
+        bounded.table.source,
+        bounded.table.tails,
+        bounded.table.heads,
+        bounded.table.capacities,
+        flow,
+        lists,
+        side,
+    );
+    rows::clear(
+        work,
+        work::work_need(bounded.table.nodes, bounded.table.capacities.len()),
+    );
     answer_of(stamp, value)
 }
 
@@ -259,44 +257,46 @@ fn open_capacity(capacities: &[u32], place: usize, capacity: u32, row: &mut [u32
 
 // Goes on from the flow where the arc at the place has the new capacity: `new` takes the capacities. The flow row has just its m places.
 fn open_rows(
-    n: u32,
-    s: u32,
-    t: u32,
+    bounded: &LentBounded,
     stamp: u32,
-    tails: &[u32],
-    heads: &[u32],
-    capacities: &[u32],
     place: u32,
     capacity: u32,
     new: &mut [u32],
-    minimums: &[u32],
     lists: &[u32],
     flow: &mut [u32],
     side: &mut [u8],
     work: &mut [u32],
 ) -> Answer
-    requires opens { Opens (given_table n s t tails heads capacities) place capacity flow.old (length side.old) (length work.old) }
-    requires by_index { (row : List ℕ) → length row ≡ length tails.now → InWork (table_of n s t tails.now heads.now row) lists.now }
-    requires len { (length new.old ≡ length capacities.now) × (length flow.old ≡ length capacities.now)
-        × (minimums.now ≡ replicate (length capacities.now) 0) }
-    ensures { let table = lent_table n s t tails heads capacities in
+    requires opens { Opens (table_in bounded.now.table) place capacity flow.old (length side.old) (length work.old) }
+    requires by_index { (row : List ℕ) → length row ≡ length bounded.now.table.tails.now → InWork (table_of bounded.now.table.nodes bounded.now.table.source bounded.now.table.sink bounded.now.table.tails.now bounded.now.table.heads.now row) lists.now }
+    requires len { (length new.old ≡ length bounded.now.table.capacities.now) × (length flow.old ≡ length bounded.now.table.capacities.now)
+        × (bounded.now.minimums.now ≡ replicate (length bounded.now.table.capacities.now) 0) }
+    ensures { let table = table_in bounded.now.table in
         left result flow.new side.new work.new ≡ went_on (opened table place capacity) stamp flow.old side.old work.old }
 {
-    open_capacity(capacities, place as usize, capacity, new);
+    open_capacity(bounded.table.capacities, place as usize, capacity, new);
     go_on_rows(
-        n, s, t, stamp, tails, heads, new, minimums, lists, flow, side, work,
+        TODO(
+            bounded.table.nodes,
+            bounded.table.source,
+            bounded.table.sink,
+            bounded.table.tails,
+            bounded.table.heads,
+            new,
+            bounded.minimums,
+        ),
+        stamp,
+        lists,
+        flow,
+        side,
+        work,
     )
 }
 
 // The same for a flow row that may be longer, in room of its own for the capacities. The lists of these arcs stand in the row `lists`.
 fn open_table(
-    n: u32,
-    s: u32,
-    t: u32,
+    table: &LentTable,
     stamp: u32,
-    tails: &[u32],
-    heads: &[u32],
-    capacities: &[u32],
     place: u32,
     capacity: u32,
     lists: &[u32],
@@ -304,26 +304,28 @@ fn open_table(
     side: &mut [u8],
     work: &mut [u32],
 ) -> Answer
-    requires opens { Opens (given_table n s t tails heads capacities) place capacity flow.old (length side.old) (length work.old) }
-    requires by_index { (row : List ℕ) → length row ≡ length tails.now → InWork (table_of n s t tails.now heads.now row) lists.now }
-    ensures { let table = lent_table n s t tails heads capacities in
+    requires opens { Opens (table_in table.now) place capacity flow.old (length side.old) (length work.old) }
+    requires by_index { (row : List ℕ) → length row ≡ length table.now.tails.now → InWork (table_of table.now.nodes table.now.source table.now.sink table.now.tails.now table.now.heads.now row) lists.now }
+    ensures { let table = table_in table.now in
         left result flow.new side.new work.new ≡ went_on (opened table place capacity) stamp flow.old side.old work.old }
 {
-    let m = capacities.len();
+    let m = table.capacities.len();
     let mut new = [0u32; 4096];
     let minimums = [0u32; 4096];
     open_rows(
-        n,
-        s,
-        t,
+        TODO(
+            table.nodes,
+            table.source,
+            table.sink,
+            table.tails,
+            table.heads,
+            table.capacities,
+            &minimums[..m],
+        ),
         stamp,
-        tails,
-        heads,
-        capacities,
         place,
         capacity,
         &mut new[..m],
-        &minimums[..m],
         lists,
         &mut flow[..m],
         side,
@@ -333,13 +335,8 @@ fn open_table(
 
 // Opens an accepted table with room: fills its lists into a row of the call's own, and goes on, or gives the change's refusal with nothing lent written.
 fn open_listed(
-    n: u32,
-    s: u32,
-    t: u32,
+    table: &LentTable,
     stamp: u32,
-    tails: &[u32],
-    heads: &[u32],
-    capacities: &[u32],
     place: u32,
     capacity: u32,
     lists: &mut [u32],
@@ -347,79 +344,60 @@ fn open_listed(
     side: &mut [u8],
     work: &mut [u32],
 ) -> Answer
-    requires accepted { Accepted (given_table n s t tails heads capacities) }
-    requires given_room { GivenRoom n capacities.now flow.old side.old work.old }
-    requires tails_in_bounds { work_end n (length tails.now) ≤ length lists.old }
-    ensures { let table = lent_table n s t tails heads capacities in
+    requires accepted { Accepted (table_in table.now) }
+    requires given_room { GivenRoom table.now.nodes table.now.capacities.now flow.old side.old work.old }
+    requires tails_in_bounds { work_end table.now.nodes (length table.now.tails.now) ≤ length lists.old }
+    ensures { let table = table_in table.now in
         left result flow.new side.new work.new
         ≡ opening_as (change_verdict table place capacity flow.old) (opened table place capacity) stamp flow.old side.old work.old }
 {
-    arcs::fill_work(n, tails, heads, lists);
-    match change_verdict(
-        n, s, t, tails, heads, capacities, place, capacity, flow, lists,
-    ) {
-        Verdict::Refused(name, at) => solver::refused(name, at),
-        Verdict::Fine => open_table(
-            n, s, t, stamp, tails, heads, capacities, place, capacity, lists, flow, side, work,
-        ),
+    arcs::fill_work(table.nodes, table.tails, table.heads, lists);
+    match change_verdict(table, place, capacity, flow, lists) {
+        Err(refusal) => solver::refused(name, at),
+        Ok(()) => open_table(table, stamp, place, capacity, lists, flow, side, work),
     }
 }
 
 // The same in room of its own for the lists.
 fn open_accepted(
-    n: u32,
-    s: u32,
-    t: u32,
+    table: &LentTable,
     stamp: u32,
-    tails: &[u32],
-    heads: &[u32],
-    capacities: &[u32],
     place: u32,
     capacity: u32,
     flow: &mut [u32],
     side: &mut [u8],
     work: &mut [u32],
 ) -> Answer
-    requires accepted { Accepted (given_table n s t tails heads capacities) }
-    requires given_room { GivenRoom n capacities.now flow.old side.old work.old }
-    ensures { let table = lent_table n s t tails heads capacities in
+    requires accepted { Accepted (table_in table.now) }
+    requires given_room { GivenRoom table.now.nodes table.now.capacities.now flow.old side.old work.old }
+    ensures { let table = table_in table.now in
         left result flow.new side.new work.new
         ≡ opening_as (change_verdict table place capacity flow.old) (opened table place capacity) stamp flow.old side.old work.old }
 {
     let mut lists = [0u32; 4 * 512 + 2 * 4096 + 1];
-    open_listed(
-        n, s, t, stamp, tails, heads, capacities, place, capacity, &mut lists, flow, side, work,
-    )
+    open_listed(table, stamp, place, capacity, &mut lists, flow, side, work)
 }
 
 // Opens the arc at a place of the old table to a new capacity: goes on from the table's maximum flow along chains of fewest residual arcs,
 // the first of them by their places, each filled by its least residual, until the sink can't be reached; or gives the first refusal, with nothing written.
 pub fn open(
-    n: u32,
-    s: u32,
-    t: u32,
+    bounded: &LentBounded,
     stamp: u32,
-    tails: &[u32],
-    heads: &[u32],
-    capacities: &[u32],
-    minimums: &[u32],
     place: u32,
     capacity: u32,
     flow: &mut [u32],
     side: &mut [u8],
     work: &mut [u32],
 ) -> Answer
-    ensures exact { let table = lent_bounded n s t tails heads capacities minimums in
+    ensures exact { let table = bounded_in bounded.now in
         left result flow.new side.new work.new ≡ opening table stamp place capacity flow.old side.old work.old }
-    ensures best { let table = lent_table n s t tails heads capacities in
+    ensures best { let table = table_in bounded.now.table in
         result.refusal ≡ 0 → Reopens table (opened table place capacity) flow.old (left result flow.new side.new work.new) }
-    ensures notmax { result.refusal ≡ 23 → MaximumFlow (lent_table n s t tails heads capacities) flow.old → ⊥ }
+    ensures notmax { result.refusal ≡ 23 → MaximumFlow (table_in bounded.now.table) flow.old → ⊥ }
 {
-    let room = solver::has_room(n, capacities.len(), flow.len(), side.len(), work.len());
-    match minimums::plain_check(n, tails, heads, capacities, minimums, s, t, room) {
-        Verdict::Refused(name, at) => solver::refused(name, at),
-        Verdict::Fine => open_accepted(
-            n, s, t, stamp, tails, heads, capacities, place, capacity, flow, side, work,
-        ),
+    let room = solver::has_room(&bounded.table, flow.len(), side.len(), work.len());
+    match minimums::plain_check(bounded, room) {
+        Err(refusal) => solver::refused(name, at),
+        Ok(()) => open_accepted(&bounded.table, stamp, place, capacity, flow, side, work),
     }
 }

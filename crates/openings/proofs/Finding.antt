@@ -8,7 +8,7 @@ use lib.ListN.{length}
 use Rattle.rows.specs.Row.{at_place}
 use Rattle.table.specs.Table.{Table, arcs, network_of}
 use Rattle.table.specs.Accepted.{Accepted}
-use Rattle.table.specs.Checks.{is_fine, or_else, fine, refused, Verdict}
+use Rattle.table.specs.Checks.{is_fine, or_else, no_refusal, refused, Verdict}
 use Rattle.table.specs.declared.Name.{Name}
 use Rattle.table.proofs.Numbers.{number_positive}
 use Rattle.minimums.specs.BoundedTable.{BoundedTable}
@@ -58,7 +58,7 @@ found_lists t ok stamp flow side work sources sinks places =
     }
 
 -- Where two verdicts refuse nothing, the first does not.
-first_fine : (a b : Verdict) → or_else a b ≡ fine → a ≡ fine
+first_fine : (a b : Verdict) → or_else a b ≡ no_refusal → a ≡ no_refusal
 unfolding or_else
 first_fine (Ok _) b e = refl
 first_fine (Err why) b e = absurd (let z : ◌≡◌ {A = ℕ} 0 1 = cc in omega arith)
@@ -78,7 +78,7 @@ module _ (b : BoundedTable) (stamp : ℕ) (flow side work sources sinks places :
     unfolding finding finding_as or_else
     refused_finding name place e r f = rw (← checked, e) (ap (λ (a : Openings). left_openings a flow side work sources sinks places) f)
 
-    module _ (fine : v ≡ fine) where
+    module _ (fine : v ≡ no_refusal) where
       -- Where they do not, the lists' room decides.
       pub fine_finding : (l : LeftOpenings) → l ≡ finding_as (lists_verdict b.table (length sources) (length sinks) (length places)) b.table stamp flow side work sources sinks places
           → l ≡ finding b stamp flow side work sources sinks places
@@ -105,7 +105,7 @@ module _ (b : BoundedTable) (stamp : ℕ) (flow side work sources sinks places :
       go : (v : Verdict) → finding_verdict b (length flow) (length side) (length work) (length sources) (length sinks) (length places) ≡ v
           → Meets b.table (left l.openings.answer l.flow l.side l.work) × HelpsExactly b.table
       go (Ok _) e =
-          let ok = fine_accepted fine (sym (first_fine _ _ e)) refl in
+          let ok = fine_accepted no_refusal (sym (first_fine _ _ e)) refl in
           let parts = ap (λ (x : LeftOpenings). left x.openings.answer x.flow x.side x.work) (same ∙ ap by e) ∙ solved_parts b.table stamp flow side work in
           (subst⁻¹ (Meets b.table) parts (solved_meets b.table stamp flow side work ok), helps_exactly b.table ok)
       go (Err why) e = absurd (number_positive why.name (ap (λ (x : LeftOpenings). x.openings.answer.refusal) (sym (same ∙ ap by e)) ∙ none))
@@ -122,5 +122,5 @@ module _ (b : BoundedTable) (stamp : ℕ) (flow side work sources sinks places :
           → HoldsLists b.table l
       go (Ok _) e =
           subst⁻¹ (HoldsLists b.table) (same ∙ ap by e)
-          (found_lists b.table (fine_accepted fine (sym (first_fine _ _ e)) refl) stamp flow side work sources sinks places)
+          (found_lists b.table (fine_accepted no_refusal (sym (first_fine _ _ e)) refl) stamp flow side work sources sinks places)
       go (Err why) e = absurd (number_positive why.name (ap (λ (x : LeftOpenings). x.openings.answer.refusal) (sym (same ∙ ap by e)) ∙ none))

@@ -9,7 +9,7 @@ use lib.Seq.{take_all}
 use Rattle.rows.specs.Row.{cleared}
 use Rattle.table.specs.Table.{Table, arcs}
 use Rattle.table.specs.Accepted.{Accepted}
-use Rattle.table.specs.Checks.{refuse_if, fine}
+use Rattle.table.specs.Checks.{refuse_if, no_refusal}
 use Rattle.table.specs.declared.Name.TheVariants.{Room}
 use Rattle.arcs.specs.Work.{work_need}
 use Rattle.reach.specs.Side.{side_of, sink_side_of}
@@ -68,7 +68,7 @@ handed_finding t ok stamp answer flows marks drains flow side work sources sinks
         (filled_with (flow_of t) flow) (filled_with (side_of t (flow_of t)) side) (cleared (work_need t.nodes (length t.tails)) work)
         (filled_with (source_nodes t) sources) (filled_with (sink_nodes t) sinks) (filled_with (helping_places t) places))
         (left_openings (openings_with (refusal Room 0) 0 0 0) flow side work sources sinks places)
-        ≡ finding_as (refuse_if (not fits) Room 0 fine) t stamp flow side work sources sinks places
+        ≡ finding_as (refuse_if (not fits) Room 0 no_refusal) t stamp flow side work sources sinks places
     go true =
         same_openings refl (ap (λ (l : ℕ). flow_of t ++ drop l flow) (flow_long t ok)) (ap (λ (l : ℕ). side_of t (flow_of t) ++ drop l side) (side_long t ok (flow_of t)))
         (ap (λ (l : ℕ). cleared (work_need t.nodes l) work) tails_long) refl refl refl

@@ -3,7 +3,7 @@ use Rattle.std.specs.Prelude.{ℕ, suc, Bool, cond, not, ◌&&◌, ◌≡◌, Li
 use Rattle.rows.specs.Lent.{LentRow}
 use Rattle.rows.specs.Row.{cleared}
 use Rattle.table.specs.Table.{Table, arcs}
-use Rattle.table.specs.Checks.{refuse_if, or_else, fine, Verdict}
+use Rattle.table.specs.Checks.{refuse_if, or_else, no_refusal, Verdict}
 use Rattle.table.specs.declared.Name.TheVariants.{Room}
 use Rattle.minimums.specs.BoundedTable.{BoundedTable}
 use Rattle.verdicts.specs.Plain.{plain_verdict}
@@ -41,7 +41,7 @@ has_lists sides ends helping sources sinks places = leb (length sides) sources &
 -- ROOM, last of all, if a list can't hold its side or the places.
 abbrev pub lists_verdict : Table → (sources sinks places : ℕ) → Verdict
 lists_verdict t sources sinks places =
-    refuse_if (not (has_lists (source_nodes t) (sink_nodes t) (helping_places t) sources sinks places)) Room 0 fine
+    refuse_if (not (has_lists (source_nodes t) (sink_nodes t) (helping_places t) sources sinks places)) Room 0 no_refusal
 
 -- What the checks find: as for solving, then BOUNDED, then the lists' ROOM.
 abbrev pub finding_verdict : BoundedTable → (flow side work sources sinks places : ℕ) → Verdict

@@ -3,9 +3,9 @@
 
 ghost use Rattle.std.specs.Prelude.{◌≡◌, true, ◌&&◌, ◌≤◌, ◌<◌, length, take};
 ghost use Rattle.rows.specs.Row.{Node};
-ghost use Rattle.table.specs.Table.{lent_table, given_table};
+ghost use Rattle.table.specs.Table.{table_in};
 ghost use Rattle.table.specs.Accepted.{Accepted, ArcEnds};
-ghost use Rattle.minimums.specs.BoundedTable.{lent_bounded};
+ghost use Rattle.minimums.specs.BoundedTable.{bounded_in};
 ghost use Rattle.arcs.specs.Work.{work_need};
 ghost use Rattle.reach.specs.Side.{marked};
 ghost use Rattle.solver.specs.Solving.{refusal, Meets, GivenRoom, left};
@@ -15,11 +15,11 @@ ghost use Rattle.openings.specs.Sides.{Sides};
 ghost use Rattle.openings.specs.Finding.{openings_with, has_lists, Listed, handed, lists_verdict, finding_as, finding, left_openings};
 
 use solver::Answer;
-use table::{Name, Verdict};
+use table::{LentTable, Name, Refusal};
 
 // What the call returns: solving's result, and how many numbers of each list were filled.
 #[repr(C)]
-#[derive(Clone, Copy)]
+#[derive(Clone, Copy, Debug, PartialEq, Eq)]
 pub struct Openings {
     pub answer: Answer,
     pub sources: u32,
@@ -101,62 +101,49 @@ fn list_places(tails: &[u32], heads: &[u32], side: &[u8], drains: &[u8], list: &
 
 // Solves an accepted table and marks both sides. The flow row has just its m places, and the work row keeps the lists.
 fn mark_both(
-    n: u32,
-    s: u32,
-    t: u32,
+    table: &LentTable,
     stamp: u32,
-    tails: &[u32],
-    heads: &[u32],
-    capacities: &[u32],
     flow: &mut [u32],
     side: &mut [u8],
     drains: &mut [u8],
     work: &mut [u32],
 ) -> Answer
-    requires accepted { Accepted (given_table n s t tails heads capacities) }
-    requires flow_len { (length flow.old ≡ length capacities.now) × (n ≤ length side.old) × (n ≤ length drains.old)
-        × (work_need n (length capacities.now) ≤ length work.old) }
-    ensures { Sides (lent_table n s t tails heads capacities) stamp result flow.new side.new drains.new }
+    requires accepted { Accepted (table_in table.now) }
+    requires flow_len { (length flow.old ≡ length table.now.capacities.now) × (table.now.nodes ≤ length side.old) × (table.now.nodes ≤ length drains.old)
+        × (work_need table.now.nodes (length table.now.capacities.now) ≤ length work.old) }
+    ensures { Sides (table_in table.now) stamp result flow.new side.new drains.new }
 {
-    arcs::fill_work(n, tails, heads, work);
-    let answer = solver::solve_filled(n, s, t, stamp, tails, heads, capacities, flow, side, work);
-    reach::mark(n, t, heads, tails, capacities, flow, work, drains);
+    arcs::fill_work(table.nodes, table.tails, table.heads, work);
+    let answer = solver::solve_filled(table, stamp, flow, side, work);
+    reach::mark(
+        table.nodes,
+        table.sink,
+        table.heads,
+        table.tails,
+        table.capacities,
+        flow,
+        work,
+        drains,
+    );
     answer
 }
 
 // The same over a flow row with room.
 fn solve_sides(
-    n: u32,
-    s: u32,
-    t: u32,
+    table: &LentTable,
     stamp: u32,
-    tails: &[u32],
-    heads: &[u32],
-    capacities: &[u32],
     flow: &mut [u32],
     side: &mut [u8],
     drains: &mut [u8],
     work: &mut [u32],
 ) -> Answer
-    requires accepted { Accepted (given_table n s t tails heads capacities) }
-    requires capacities_in_bounds { (length capacities.now ≤ length flow.old) × (n ≤ length side.old) × (n ≤ length drains.old)
-        × (work_need n (length capacities.now) ≤ length work.old) }
-    ensures { Sides (lent_table n s t tails heads capacities) stamp result flow.new side.new drains.new }
+    requires accepted { Accepted (table_in table.now) }
+    requires capacities_in_bounds { (length table.now.capacities.now ≤ length flow.old) × (table.now.nodes ≤ length side.old) × (table.now.nodes ≤ length drains.old)
+        × (work_need table.now.nodes (length table.now.capacities.now) ≤ length work.old) }
+    ensures { Sides (table_in table.now) stamp result flow.new side.new drains.new }
 {
-    let m = capacities.len();
-    mark_both(
-        n,
-        s,
-        t,
-        stamp,
-        tails,
-        heads,
-        capacities,
-        &mut flow[..m],
-        side,
-        drains,
-        work,
-    )
+    let m = table.capacities.len();
+    mark_both(table, stamp, &mut flow[..m], side, drains, work)
 }
 
 // Whether lists of these lengths can hold the source side, the nodes that reach the sink, and the places.
@@ -204,7 +191,7 @@ fn write_lists(
     let in_sinks = list_nodes(drains, sinks);
     let in_places = list_places(tails, heads, side, drains, places);
     Openings {
-        answer: answer,
+        answer,
         sources: in_sources,
         sinks: in_sinks,
         places: in_places,
@@ -274,13 +261,8 @@ fn hand_lists(
 
 // The call on an accepted table with solving's rows: it solves in rows of its own, and hands over what it found.
 fn find_accepted(
-    n: u32,
-    s: u32,
-    t: u32,
+    table: &LentTable,
     stamp: u32,
-    tails: &[u32],
-    heads: &[u32],
-    capacities: &[u32],
     flow: &mut [u32],
     side: &mut [u8],
     work: &mut [u32],
@@ -288,9 +270,9 @@ fn find_accepted(
     sinks: &mut [u32],
     places: &mut [u32],
 ) -> Openings
-    requires accepted { Accepted (given_table n s t tails heads capacities) }
-    requires given_room { GivenRoom n capacities.now flow.old side.old work.old }
-    ensures { let table = lent_table n s t tails heads capacities in
+    requires accepted { Accepted (table_in table.now) }
+    requires given_room { GivenRoom table.now.nodes table.now.capacities.now flow.old side.old work.old }
+    ensures { let table = table_in table.now in
         left_openings result flow.new side.new work.new sources.new sinks.new places.new
         ≡ finding_as (lists_verdict table (length sources.old) (length sinks.old) (length places.old)) table stamp
         flow.old side.old work.old sources.old sinks.old places.old }
@@ -299,34 +281,28 @@ fn find_accepted(
     let mut marks = [0u8; 512];
     let mut drains = [0u8; 512];
     let mut room = [0u32; 4 * 512 + 2 * 4096 + 1];
-    let answer = solve_sides(
-        n,
-        s,
-        t,
-        stamp,
-        tails,
-        heads,
-        capacities,
-        &mut flows,
-        &mut marks,
-        &mut drains,
-        &mut room,
-    );
+    let answer = solve_sides(table, stamp, &mut flows, &mut marks, &mut drains, &mut room);
     hand_lists(
-        n, answer, tails, heads, &flows, &marks, &drains, flow, side, work, sources, sinks, places,
+        table.nodes,
+        answer,
+        table.tails,
+        table.heads,
+        &flows,
+        &marks,
+        &drains,
+        flow,
+        side,
+        work,
+        sources,
+        sinks,
+        places,
     )
 }
 
 // Solves the table, and lists the source side, the nodes that reach the sink, and the places whose opening would help; or the first refusal, with nothing written.
 pub fn find_openings(
-    n: u32,
-    s: u32,
-    t: u32,
+    bounded: &LentBounded,
     stamp: u32,
-    tails: &[u32],
-    heads: &[u32],
-    capacities: &[u32],
-    minimums: &[u32],
     flow: &mut [u32],
     side: &mut [u8],
     work: &mut [u32],
@@ -334,17 +310,24 @@ pub fn find_openings(
     sinks: &mut [u32],
     places: &mut [u32],
 ) -> Openings
-    ensures exact { let table = lent_bounded n s t tails heads capacities minimums in
+    ensures exact { let table = bounded_in bounded.now in
         left_openings result flow.new side.new work.new sources.new sinks.new places.new
         ≡ finding table stamp flow.old side.old work.old sources.old sinks.old places.old }
-    ensures best { let table = lent_table n s t tails heads capacities in
+    ensures best { let table = table_in bounded.now.table in
         result.answer.refusal ≡ 0 → Meets table (left result.answer flow.new side.new work.new) × HelpsExactly table }
 {
-    let room = solver::has_room(n, capacities.len(), flow.len(), side.len(), work.len());
-    match minimums::plain_check(n, tails, heads, capacities, minimums, s, t, room) {
-        Verdict::Refused(name, place) => no_openings(name, place),
-        Verdict::Fine => find_accepted(
-            n, s, t, stamp, tails, heads, capacities, flow, side, work, sources, sinks, places,
+    let room = solver::has_room(&bounded.table, flow.len(), side.len(), work.len());
+    match minimums::plain_check(bounded, room) {
+        Err(refusal) => no_openings(name, place),
+        Ok(()) => find_accepted(
+            &bounded.table,
+            stamp,
+            flow,
+            side,
+            work,
+            sources,
+            sinks,
+            places,
         ),
     }
 }

@@ -13,7 +13,7 @@ use lib.Seq.{take_at}
 use Rattle.rows.proofs.Sums.{by_test}
 use Rattle.table.specs.Table.{arcs}
 use Rattle.table.specs.Accepted.{Accepted}
-use Rattle.table.specs.Checks.{is_fine, fine, refused, Verdict}
+use Rattle.table.specs.Checks.{is_fine, refused, Verdict}
 use Rattle.table.specs.Refusals.{number_of}
 use Rattle.table.specs.declared.Name.TheVariants.{Room, Solution}
 use Rattle.table.proofs.Numbers.{number_positive}

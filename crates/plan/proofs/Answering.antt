@@ -7,7 +7,7 @@ use lib.ListN.{length}
 use borrow.Author.Tests.{leb-true}
 use Rattle.table.specs.Table.{Table}
 use Rattle.table.specs.Accepted.{Accepted}
-use Rattle.table.specs.Checks.{or_else, fine, refused, Verdict}
+use Rattle.table.specs.Checks.{or_else, no_refusal, refused, Verdict}
 use Rattle.table.specs.Refusals.{number_of}
 use Rattle.table.specs.declared.Name.{Name}
 use Rattle.table.specs.declared.Name.TheVariants.{Solution}
@@ -41,12 +41,12 @@ module _ (b : BoundedTable) (text side : List ℕ) (v : Verdict) (verdict : v �
   plan_refused r name place e f = rw (← verdict, e) f
 
   -- or the text tells.
-  pub plan_fine : (r : Checked) → v ≡ fine → Answers (lines_verdict (judged text)) (judged text) b.table text side r → Checks b text side r
+  pub plan_fine : (r : Checked) → v ≡ no_refusal → Answers (lines_verdict (judged text)) (judged text) b.table text side r → Checks b text side r
   unfolding plan_verdict or_else
   plan_fine r e a = rw (← verdict, e) a
 
   -- The table is accepted then, the side row has n marks, and the text is not too long.
-  pub plan_accepts : v ≡ fine → Accepted b.table × (b.table.nodes ≤ length side) × (length text ≤ 1048576)
+  pub plan_accepts : v ≡ no_refusal → Accepted b.table × (b.table.nodes ≤ length side) × (length text ≤ 1048576)
   plan_accepts e =
       let (ok, room) = text_accepts b _ _ v verdict e in
       (ok, leb-true _ _ room, text_not_long b _ _ v verdict e)

@@ -14,7 +14,7 @@ use Rattle.rows.proofs.Sums.{only_le, sum_ext, sum_bound}
 use Rattle.network.specs.Network.{leaves, leaving}
 use Rattle.table.specs.Table.{Table, arcs, tail, head, capacity, network_of}
 use Rattle.table.specs.Accepted.{Accepted}
-use Rattle.table.specs.Checks.{is_fine, or_else, fine, Verdict}
+use Rattle.table.specs.Checks.{is_fine, or_else, no_refusal, Verdict}
 use Rattle.minimums.specs.BoundedTable.{BoundedTable}
 use Rattle.minimums.specs.Checks.{plain_check}
 use Rattle.reach.specs.Side.{marked, side_of}
@@ -36,11 +36,11 @@ use Rattle.plan.specs.Checking.{lines_verdict, plan_verdict, checked_with, Flags
 use Rattle.plan.proofs.Worded.{lines_next, kind_value, arc_amounts, judge_flows, amounts_flows, amounts_pairs}
 
 -- What an answer says where nothing is refused.
-answers_yes : (verdict : Verdict) (said : Judged) (t : Table) (text side : List ℕ) (r : Checked) (v : ℕ) → verdict ≡ fine → said ≡ Says v → Answers verdict said t text side r
+answers_yes : (verdict : Verdict) (said : Judged) (t : Table) (text side : List ℕ) (r : Checked) (v : ℕ) → verdict ≡ no_refusal → said ≡ Says v → Answers verdict said t text side r
     → (r ≡ checked_with 0 0 r.full) × Flags r.full (Full t v (amounts_of (lines text)) side)
 unfolding Answers
 answers_yes verdict said t text side r v e f a =
-    subst (λ (j : Judged). Answers fine j t text side r) f (subst (λ (w : Verdict). Answers w said t text side r) e a)
+    subst (λ (j : Judged). Answers no_refusal j t text side r) f (subst (λ (w : Verdict). Answers w said t text side r) e a)
 
 module _ (t : Table) (ok : Accepted t) where
   -- The run's flow,
@@ -149,7 +149,7 @@ own_yes b fine ok flow side r c =
     let written : solution_text t (own_value t ok) (own_flow t ok ++ flow) ≡ text = text_front t (own_value t ok) (own_flow t ok) flow (flow_long t ok ∙ ok.rows.capacities_long) in
     let enough : t.nodes ≤ length marks = omega (arith, length-append (own_side t ok) side, side_long t ok) in
     let before = text_fine b (length text) (leb t.nodes (length marks)) (text_short t ok (own_value t ok) (own_flow t ok)) {found = plain_check b true} refl fine (le-leb t.nodes (length marks) enough) in
-    let verdict : plan_verdict b text (length marks) ≡ fine = rw (← before, own_judged t ok) refl in
+    let verdict : plan_verdict b text (length marks) ≡ no_refusal = rw (← before, own_judged t ok) refl in
     let checked : Checks b text marks r = subst (λ (bytes' : List ℕ). Checks b bytes' marks r) written c in
     let (is, flags) = answers_yes (plan_verdict b text (length marks)) (judged text) t text marks r (own_value t ok) verdict (own_judged t ok) checked in
     is ∙ ap (checked_with 0 0) (flags.told (own_full t ok side))

@@ -1,7 +1,7 @@
 -- Document 02, CR 8: what checking a plan returns.
 use Rattle.std.specs.Prelude.{ℕ, ◌≤◌, ◌≡◌, List, leb, length, Ok, Err}
 use Rattle.table.specs.Table.{Table}
-use Rattle.table.specs.Checks.{or_else, fine, refused, Verdict}
+use Rattle.table.specs.Checks.{or_else, no_refusal, refused, Verdict}
 use Rattle.table.specs.Refusals.{number_of}
 use Rattle.table.specs.declared.Name.TheVariants.{Solution}
 use Rattle.minimums.specs.BoundedTable.{BoundedTable}
@@ -15,7 +15,7 @@ use Rattle.plan.specs.declared.Checked.{Checked}
 
 -- SOLUTION at the first line that is not of its form, or one past the last if there is no `s` line.
 unfoldable pub lines_verdict : Judged → Verdict
-lines_verdict (Says value) = fine
+lines_verdict (Says value) = no_refusal
 lines_verdict (Fault place) = refused Solution place
 
 -- The order: LONG, the table's own checks with BOUNDED, ROOM for a short side row, SOLUTION.

@@ -1,7 +1,7 @@
 -- Worked examples of the order of refusals, by computation.
 use Rattle.std.specs.Prelude.{ℕ, ◌≡◌, refl, List, [], ◌∷◌}
 use Rattle.table.specs.Ascii.{bytes}
-use Rattle.table.specs.Checks.{outside, differ, bad_ends, arc_fault, or_else, in_order, fine, refused}
+use Rattle.table.specs.Checks.{outside, differ, bad_ends, arc_fault, or_else, in_order, no_refusal, refused}
 use Rattle.table.specs.declared.Name.TheVariants.{Ends, Room, Bounded, Solution}
 use Rattle.minimums.specs.BoundedTable.{BoundedTable, bounded_of}
 use Rattle.minimums.specs.Checks.{differ_four, bounded_sizes, bounded_fault, first_bounded_fault, all_zero}
@@ -17,7 +17,7 @@ abbrev p3 : (sink : ℕ) → List ℕ → BoundedTable
 p3 sink minimums = bounded_of 3 1 sink (1 ∷ 2 ∷ []) (2 ∷ 3 ∷ []) (4 ∷ 3 ∷ []) minimums
 
 -- A plan whose lines are of their form, a pair that no arc has among them, with a tab and two blanks; a second `s` line; a side row of 2 marks; a minimum; a sink that is the source.
-p3_verdicts : (plan_verdict (p3 3 (0 ∷ 0 ∷ [])) (bytes "s 3\nf 2 3\t3\nf 1  2 3\nf 9 9 0") 3 ≡ fine)
+p3_verdicts : (plan_verdict (p3 3 (0 ∷ 0 ∷ [])) (bytes "s 3\nf 2 3\t3\nf 1  2 3\nf 9 9 0") 3 ≡ no_refusal)
     × (plan_verdict (p3 3 (0 ∷ 0 ∷ [])) (bytes "s 3\ns 3\n") 3 ≡ refused Solution 2)
     × (plan_verdict (p3 3 (0 ∷ 0 ∷ [])) (bytes "s 3\ns 3\n") 2 ≡ refused Room 0)
     × (plan_verdict (p3 3 (0 ∷ 1 ∷ [])) (bytes "s 3\ns 3\n") 2 ≡ refused Bounded 0)

@@ -5,10 +5,10 @@ ghost use Rattle.std.specs.Prelude.{ℕ, ◌+◌, ◌≤◌, ◌≡◌, true, fa
 ghost use Rattle.rows.specs.Row.{Node, at_place};
 ghost use Rattle.rows.specs.Sum.{only};
 ghost use Rattle.network.specs.Network.{leaving};
-ghost use Rattle.table.specs.Table.{network_of, lent_table, given_table};
+ghost use Rattle.table.specs.Table.{network_of, table_in};
 ghost use Rattle.table.specs.Accepted.{Accepted, ArcRows};
 ghost use Rattle.table.specs.Refusals.{number_of};
-ghost use Rattle.minimums.specs.BoundedTable.{lent_bounded};
+ghost use Rattle.minimums.specs.BoundedTable.{bounded_in};
 ghost use Rattle.reach.specs.Side.{marked};
 ghost use Rattle.scan.specs.Parts.{lines};
 ghost use Rattle.amounts.specs.Lines.{amount_in, amounts_of, judged};
@@ -19,11 +19,11 @@ ghost use Rattle.plan.specs.Checking.{checked_with, lines_verdict, Flags, Answer
 ghost use Rattle.plan.specs.Rows.{Adds, TookAll, IsBelow, AtMost, Rows, HoldsAt, IsEven, IsKept, Decides};
 
 use amounts::{Judged, Kind};
-use table::{Name, Verdict};
+use table::{LentTable, Name, Refusal};
 
 // What checking returns: a refusal's number and place, or 0 with 1 where the plan is full, else 0.
 #[repr(C)]
-#[derive(Clone, Copy)]
+#[derive(Clone, Copy, Debug, PartialEq, Eq)]
 pub struct Checked {
     pub refusal: u32,
     pub place: u32,
@@ -179,22 +179,19 @@ fn crossing(side: &[u8], tail: u32, head: u32, capacity: u32) -> u64
 }
 
 // The capacity of the marked cut.
-fn cut_capacity(
-    n: u32,
-    s: u32,
-    t: u32,
-    tails: &[u32],
-    heads: &[u32],
-    capacities: &[u32],
-    side: &[u8],
-) -> u64
-    requires { ArcRows n tails.now heads.now capacities.now × (n ≤ length side.now) }
-    ensures { result ≡ leaving (network_of (lent_table n s t tails heads capacities)) (marked side.now) (at_place capacities.now) }
+fn cut_capacity(table: &LentTable, side: &[u8]) -> u64
+    requires { ArcRows table.now.nodes table.now.tails.now table.now.heads.now table.now.capacities.now × (table.now.nodes ≤ length side.now) }
+    ensures { result ≡ leaving (network_of (table_in table.now)) (marked side.now) (at_place table.now.capacities.now) }
 {
     let mut total: u64 = 0;
     let mut place: usize = 0;
-    while place < capacities.len() {
-        total += crossing(side, tails[place], heads[place], capacities[place]);
+    while place < table.capacities.len() {
+        total += crossing(
+            side,
+            table.tails[place],
+            table.heads[place],
+            table.capacities[place],
+        );
         place += 1;
     }
     total
@@ -211,73 +208,53 @@ fn is_net(out: u64, into: u64, value: u32) -> bool
 }
 
 // Do the sums of the text fit the table, and their net out of the source the value?
-fn sums_fit(
-    n: u32,
-    s: u32,
-    t: u32,
-    tails: &[u32],
-    heads: &[u32],
-    capacities: &[u32],
-    text: &[u8],
-    value: u32,
-) -> bool
-    requires { Accepted (given_table n s t tails heads capacities) × (length text.now ≤ 1048576) }
-    ensures { Decides result (SumsFit (lent_table n s t tails heads capacities) value (amounts_of (lines text.now))) }
+fn sums_fit(table: &LentTable, text: &[u8], value: u32) -> bool
+    requires { Accepted (table_in table.now) × (length text.now ≤ 1048576) }
+    ensures { Decides result (SumsFit (table_in table.now) value (amounts_of (lines text.now))) }
 {
     let mut out = [0u64; 512];
     let mut into = [0u64; 512];
-    if !take_text(n, tails, heads, capacities, text, &mut out, &mut into) {
+    if !take_text(
+        table.nodes,
+        table.tails,
+        table.heads,
+        table.capacities,
+        text,
+        &mut out,
+        &mut into,
+    ) {
         return false;
     }
-    if !is_kept(n, s, t, &out, &into) {
+    if !is_kept(table.nodes, table.source, table.sink, &out, &into) {
         return false;
     }
-    let at = (s - 1) as usize;
+    let at = (table.source - 1) as usize;
     is_net(out[at], into[at], value)
 }
 
 // Is the source marked and the sink not, and has the marked cut this capacity?
-fn cut_fits(
-    n: u32,
-    s: u32,
-    t: u32,
-    tails: &[u32],
-    heads: &[u32],
-    capacities: &[u32],
-    value: u32,
-    side: &[u8],
-) -> bool
-    requires { Accepted (given_table n s t tails heads capacities) × (n ≤ length side.now) }
-    ensures { Decides result (CutFits (lent_table n s t tails heads capacities) value side.now) }
+fn cut_fits(table: &LentTable, value: u32, side: &[u8]) -> bool
+    requires { Accepted (table_in table.now) × (table.now.nodes ≤ length side.now) }
+    ensures { Decides result (CutFits (table_in table.now) value side.now) }
 {
-    if !is_marked(side, s) {
+    if !is_marked(side, table.source) {
         return false;
     }
-    if is_marked(side, t) {
+    if is_marked(side, table.sink) {
         return false;
     }
-    cut_capacity(n, s, t, tails, heads, capacities, side) == rows::wide(value)
+    cut_capacity(table, side) == rows::wide(value)
 }
 
 // 1 where a plan is full, else 0.
-fn full_flag(
-    n: u32,
-    s: u32,
-    t: u32,
-    tails: &[u32],
-    heads: &[u32],
-    capacities: &[u32],
-    text: &[u8],
-    value: u32,
-    side: &[u8],
-) -> u32
-    requires { Accepted (given_table n s t tails heads capacities) × (n ≤ length side.now) × (length text.now ≤ 1048576) }
-    ensures { Flags result (Full (lent_table n s t tails heads capacities) value (amounts_of (lines text.now)) side.now) }
+fn full_flag(table: &LentTable, text: &[u8], value: u32, side: &[u8]) -> u32
+    requires { Accepted (table_in table.now) × (table.now.nodes ≤ length side.now) × (length text.now ≤ 1048576) }
+    ensures { Flags result (Full (table_in table.now) value (amounts_of (lines text.now)) side.now) }
 {
-    if !sums_fit(n, s, t, tails, heads, capacities, text, value) {
+    if !sums_fit(table, text, value) {
         return 0;
     }
-    if !cut_fits(n, s, t, tails, heads, capacities, value, side) {
+    if !cut_fits(table, value, side) {
         return 0;
     }
     1
@@ -291,24 +268,15 @@ fn not_checked(name: Name, place: u32) -> Checked
 {
     Checked {
         refusal: table::number(name),
-        place: place,
+        place,
         full: 0,
     }
 }
 
 // Checks the text of a plan against a table that has passed its checks.
-fn check_text(
-    n: u32,
-    s: u32,
-    t: u32,
-    tails: &[u32],
-    heads: &[u32],
-    capacities: &[u32],
-    text: &[u8],
-    side: &[u8],
-) -> Checked
-    requires { Accepted (given_table n s t tails heads capacities) × (n ≤ length side.now) × (length text.now ≤ 1048576) }
-    ensures { let table = lent_table n s t tails heads capacities in
+fn check_text(table: &LentTable, text: &[u8], side: &[u8]) -> Checked
+    requires { Accepted (table_in table.now) × (table.now.nodes ≤ length side.now) × (length text.now ≤ 1048576) }
+    ensures { let table = table_in table.now in
         let said = judged text.now in
         Answers (lines_verdict said) said table text.now side.now result }
 {
@@ -317,37 +285,21 @@ fn check_text(
         Judged::Says(value) => Checked {
             refusal: 0,
             place: 0,
-            full: full_flag(n, s, t, tails, heads, capacities, text, value, side),
+            full: full_flag(table, text, value, side),
         },
     }
 }
 
 // Checks a plan: whether its text and its side marks show that the week of a table is full; or the first refusal.
-pub fn check_plan(
-    n: u32,
-    s: u32,
-    t: u32,
-    tails: &[u32],
-    heads: &[u32],
-    capacities: &[u32],
-    minimums: &[u32],
-    text: &[u8],
-    side: &[u8],
-) -> Checked
-    ensures { Checks (lent_bounded n s t tails heads capacities minimums) text.now side.now result }
+pub fn check_plan(bounded: &LentBounded, text: &[u8], side: &[u8]) -> Checked
+    ensures { Checks (bounded_in bounded.now) text.now side.now result }
 {
     match intake::text_verdict(
-        n,
-        s,
-        t,
-        tails,
-        heads,
-        capacities,
-        minimums,
+        bounded,
         text.len(),
-        (n as usize) <= side.len(),
+        (bounded.table.nodes as usize) <= side.len(),
     ) {
-        Verdict::Refused(name, place) => not_checked(name, place),
-        Verdict::Fine => check_text(n, s, t, tails, heads, capacities, text, side),
+        Err(refusal) => not_checked(name, place),
+        Ok(()) => check_text(&bounded.table, text, side),
     }
 }

@@ -10,7 +10,7 @@ use Rattle.table.specs.Table.{arcs}
 use Rattle.minimums.specs.BoundedTable.{BoundedTable}
 use Rattle.minimums.specs.Checks.{bounded_check}
 use Rattle.table.specs.Refusals.{number_of, refusal_in, place_in}
-use Rattle.table.specs.Checks.{refuse_if, or_else, fine}
+use Rattle.table.specs.Checks.{refuse_if, or_else, no_refusal}
 use Rattle.table.specs.declared.Name.TheVariants.{Stale, Ahead, Place}
 use Rattle.stamps.specs.Stamp.{behind, relation_at, relation_number, distance_in, rebuilt, Means}
 use Rattle.stamps.specs.declared.Relation.{Relation}
@@ -29,7 +29,7 @@ stamp_number (AheadBy distance) = (refl, refl)
 
 module _
     (b : BoundedTable) (flow side : List ℕ) (place : ℕ)
-    (fine : bounded_check b (has_answer b.table.nodes (arcs b.table) (length flow) (length side)) ≡ fine) where
+    (fine : bounded_check b (has_answer b.table.nodes (arcs b.table) (length flow) (length side)) ≡ no_refusal) where
   module _ (d stamp : ℕ) (small : stamp < 2 ^ 32) (some : 1 ≤ d) (few : d < 2 ^ 31) where
     -- After d rebuilds of a table that no check refuses, an answer reads STALE at d.
     pub reads_stale : reading b (rebuilt d stamp) stamp flow side place ≡ refused_reading Stale d
@@ -59,7 +59,7 @@ module _
         subst⁻¹ (λ (x : Reading). x.refusal ≡ number_of Stale → Means stamp answer (StaleBy x.place)) (told_is stamp answer)
         (go (relation_at (behind stamp answer)) (compared_means stamp answer small also)) e
       where
-        at_place_lem : (past : Bool) → (reading_as (refuse_if past Place place fine) (read_at b.table flow side place)).refusal ≡ number_of Stale → ⊥
+        at_place_lem : (past : Bool) → (reading_as (refuse_if past Place place no_refusal) (read_at b.table flow side place)).refusal ≡ number_of Stale → ⊥
         at_place_lem true e = omega arith
         at_place_lem false e = omega arith
 
@@ -78,7 +78,7 @@ module _
         subst⁻¹ (λ (x : Reading). x.refusal ≡ number_of Ahead → Means stamp answer (AheadBy x.place)) (told_is stamp answer)
         (go (relation_at (behind stamp answer)) (compared_means stamp answer small also)) e
       where
-        at_place_lem : (past : Bool) → (reading_as (refuse_if past Place place fine) (read_at b.table flow side place)).refusal ≡ number_of Ahead → ⊥
+        at_place_lem : (past : Bool) → (reading_as (refuse_if past Place place no_refusal) (read_at b.table flow side place)).refusal ≡ number_of Ahead → ⊥
         at_place_lem true e = omega arith
         at_place_lem false e = omega arith
 

@@ -11,7 +11,7 @@ use mir.Val.{to_z, of_z}
 use lib.ListN.{length}
 use Rattle.rows.specs.Row.{cleared}
 use Rattle.table.specs.Table.{Table, arcs}
-use Rattle.table.specs.Checks.{is_fine, fine, refused, Verdict}
+use Rattle.table.specs.Checks.{is_fine, no_refusal, refused, Verdict}
 use Rattle.table.specs.Accepted.{Accepted}
 use Rattle.table.specs.declared.Name.{Name}
 use Rattle.table.specs.declared.Name.TheVariants.{Impossible as ImpossibleName}
@@ -107,7 +107,7 @@ module _ (b : BoundedTable) (stamp : ℕ) (flow side work : List ℕ) where
         by false q = subst (λ x. BoundingAs x b stamp flow side work (signed_left r flow side work)) (sym e ∙ is) (ap (λ x. signed_left x flow side work) f)
 
     -- or they don't:
-    module _ (e : v ≡ fine) where
+    module _ (e : v ≡ no_refusal) where
       -- then the table is accepted, and the rows have room.
       pub fine_solvable : Solvable b flow side × (work_need b.table.nodes (arcs b.table) ≤ length work)
       fine_solvable =

@@ -18,7 +18,7 @@ use Rattle.minimums.specs.Checks.{plain}
 use Rattle.bounded.specs.Bounded.{GreatestBounded}
 use Rattle.planner.specs.Solving.{SignedLeft, left_with_sign, Bounding, impossible, found, BoundingAs, bounded_verdict, SolvesAs, Solves, SolvesWell}
 use Rattle.planner.proofs.Plain.{plain_greatest}
-use Rattle.table.specs.Checks.{fine, refused, Verdict}
+use Rattle.table.specs.Checks.{no_refusal, refused, Verdict}
 
 module _ (b : BoundedTable) (stamp : ℕ) (flow side work : List ℕ) where
   -- A solved table without minimums meets them,
@@ -36,8 +36,8 @@ module _ (b : BoundedTable) (stamp : ℕ) (flow side work : List ℕ) where
     where
       by : (v : Verdict) → v ≡ solving_verdict b.table (length flow) (length side) (length work) → SolvesWell b l
       by (Ok _) e =
-          subst (SolvesWell b) (ap left_with_sign (fine_solving b.table stamp flow side work fine e refl (solved b.table stamp flow side work) refl) ∙ sym same)
-          (solved_well all (fine_accepted b.table stamp flow side work fine e refl))
+          subst (SolvesWell b) (ap left_with_sign (fine_solving b.table stamp flow side work no_refusal e refl (solved b.table stamp flow side work) refl) ∙ sym same)
+          (solved_well all (fine_accepted b.table stamp flow side work no_refusal e refl))
       by (Err why) e =
           absurd
           (number_positive why.name

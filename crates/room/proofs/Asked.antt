@@ -11,7 +11,7 @@ use Rattle.work.specs.declared.Stop.{Stop}
 use Rattle.asking.specs.declared.Room.{Room}
 use Rattle.asking.specs.Asking.{RoomLeft, room_left, refusal, answer_with, asked, asking_as, asking_verdict, asking}
 use Rattle.room.specs.Steps.{Halted}
-use Rattle.table.specs.Checks.{fine, refused, Verdict}
+use Rattle.table.specs.Checks.{no_refusal, refused, Verdict}
 
 -- The results of the run that stopped, and the cleared work row, are those of a table that was asked.
 pub asked_rows : (t : Table) (stamp q : ℕ) (work : List ℕ) (stop : Stop) (r : Room) (work_left : List ℕ) → Halted t q work stop work_left
@@ -27,6 +27,6 @@ module _ (b : BoundedTable) (stamp q : ℕ) (work : List ℕ) (v : Verdict) (fou
   refused_asking name place e r f = rw (← found, e) (ap (λ (a : Room). room_left a work) f)
 
   -- Where they do not, the table is asked.
-  pub fine_asking : v ≡ fine → (l : RoomLeft) → l ≡ asked b.table stamp q work → l ≡ asking b stamp q work
+  pub fine_asking : v ≡ no_refusal → (l : RoomLeft) → l ≡ asked b.table stamp q work → l ≡ asking b stamp q work
   unfolding asking asking_as
   fine_asking e l f = rw (← found, e) f

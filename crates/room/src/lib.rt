@@ -2,14 +2,14 @@
 #![tactic(auto)]
 
 ghost use Rattle.std.specs.Prelude.{◌≡◌, cond, ◌^◌, ◌≤◌, ◌<◌, leb, length};
-ghost use Rattle.table.specs.Table.{lent_table, given_table};
+ghost use Rattle.table.specs.Table.{table_in};
 ghost use Rattle.table.specs.Accepted.{Accepted};
-ghost use Rattle.minimums.specs.BoundedTable.{lent_bounded};
+ghost use Rattle.minimums.specs.BoundedTable.{bounded_in};
 ghost use Rattle.asking.specs.Asking.{room_left, room_need, has_work, refusal, answer_with, asking, Says};
 ghost use Rattle.room.specs.Steps.{Halted};
 
 use asking::Room;
-use table::{Name, Verdict};
+use table::{LentTable, Name, Refusal};
 use work::Stop;
 
 // The answer of a refusal.
@@ -18,7 +18,7 @@ fn refused(name: Name, place: u32) -> Room
 {
     Room {
         refusal: table::number(name),
-        place: place,
+        place,
         stamp: 0,
         yes: 0,
         value: 0,
@@ -48,7 +48,7 @@ fn answer_of(stamp: u32, q: u64, stop: Stop) -> Room
     Room {
         refusal: 0,
         place: 0,
-        stamp: stamp,
+        stamp,
         yes: mark(q <= stop.sink),
         value: stop.sink,
         scale: stop.scale,
@@ -76,67 +76,51 @@ fn has_work(n: u32, m: usize, work: usize) -> bool
 }
 
 // The run of an accepted table that stops at q: fills the nodes' lists into the work row, runs with the flow in the first m places of its row, and clears the work row.
-fn halt_rows(
-    n: u32,
-    s: u32,
-    t: u32,
-    tails: &[u32],
-    heads: &[u32],
-    capacities: &[u32],
-    q: u64,
-    flow: &mut [u32],
-    work: &mut [u32],
-) -> Stop
-    requires accepted { Accepted (given_table n s t tails heads capacities) }
-    requires capacities_in_bounds { (length capacities.now ≤ length flow.old) × (room_need n (length capacities.now) ≤ length work.old) }
-    ensures { Halted (lent_table n s t tails heads capacities) q work.old result work.new }
+fn halt_rows(table: &LentTable, q: u64, flow: &mut [u32], work: &mut [u32]) -> Stop
+    requires accepted { Accepted (table_in table.now) }
+    requires capacities_in_bounds { (length table.now.capacities.now ≤ length flow.old) × (room_need table.now.nodes (length table.now.capacities.now) ≤ length work.old) }
+    ensures { Halted (table_in table.now) q work.old result work.new }
 {
-    let m = capacities.len();
-    arcs::fill_work(n, tails, heads, work);
-    let stop = work::run_until(n, s, t, tails, heads, capacities, q, &mut flow[..m], work);
-    rows::clear(work, room_need(n, m));
+    let m = table.capacities.len();
+    arcs::fill_work(table.nodes, table.tails, table.heads, work);
+    let stop = work::run_until(
+        table.nodes,
+        table.source,
+        table.sink,
+        table.tails,
+        table.heads,
+        table.capacities,
+        q,
+        &mut flow[..m],
+        work,
+    );
+    rows::clear(work, room_need(table.nodes, m));
     stop
 }
 
 // The same with a flow row of its own.
-fn halt(
-    n: u32,
-    s: u32,
-    t: u32,
-    tails: &[u32],
-    heads: &[u32],
-    capacities: &[u32],
-    q: u64,
-    work: &mut [u32],
-) -> Stop
-    requires { Accepted (given_table n s t tails heads capacities) × (room_need n (length capacities.now) ≤ length work.old) }
-    ensures { Halted (lent_table n s t tails heads capacities) q work.old result work.new }
+fn halt(table: &LentTable, q: u64, work: &mut [u32]) -> Stop
+    requires { Accepted (table_in table.now) × (room_need table.now.nodes (length table.now.capacities.now) ≤ length work.old) }
+    ensures { Halted (table_in table.now) q work.old result work.new }
 {
     let mut flow = [0u32; 4096];
-    halt_rows(n, s, t, tails, heads, capacities, q, &mut flow, work)
+    halt_rows(table, q, &mut flow, work)
 }
 
 // Whether a table has room for at least q: the run stops as soon as the net flow into the sink reaches q; or the first refusal, with nothing written.
-pub fn has_room_for(
-    n: u32,
-    s: u32,
-    t: u32,
-    stamp: u32,
-    tails: &[u32],
-    heads: &[u32],
-    capacities: &[u32],
-    minimums: &[u32],
-    q: u64,
-    work: &mut [u32],
-) -> Room
-    ensures exact { room_left result work.new ≡ asking (lent_bounded n s t tails heads capacities minimums) stamp q work.old }
-    ensures says { result.refusal ≡ 0 → Says (lent_table n s t tails heads capacities) q result }
+pub fn has_room_for(bounded: &LentBounded, stamp: u32, q: u64, work: &mut [u32]) -> Room
+    ensures exact { room_left result work.new ≡ asking (bounded_in bounded.now) stamp q work.old }
+    ensures says { result.refusal ≡ 0 → Says (table_in bounded.now.table) q result }
 {
-    let roomy = has_work(n, capacities.len(), work.len());
-    match minimums::plain_check(n, tails, heads, capacities, minimums, s, t, roomy) {
-        Verdict::Refused(name, place) => refused(name, place),
-        Verdict::Fine => {
-            let stop = halt(n, s, t, tails, heads, capacities, q, work);
+    let roomy = has_work(
+        bounded.table.nodes,
+        bounded.table.capacities.len(),
+        work.len(),
+    );
+    match minimums::plain_check(bounded, roomy) {
+        Err(refusal) => refused(name, place),
+        Ok(()) => {
+            let stop = halt(&bounded.table, q, work);
             answer_of(stamp, q, stop)
         }
     }

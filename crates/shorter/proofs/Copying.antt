@@ -12,7 +12,7 @@ use Rattle.rows.proofs.Storing.{sets_front}
 use Rattle.table.specs.Refusals.{number_of}
 use Rattle.table.specs.declared.Name.TheVariants.{Room}
 use Rattle.shorter.specs.Shorter.{shorter_of, left_part, part_with, copied}
-use Rattle.table.specs.Checks.{fine}
+use Rattle.table.specs.Checks.{no_refusal}
 
 module _ (numbers row : List ℕ) where
   -- It has not: ROOM, and the row is as it was.
@@ -23,9 +23,9 @@ module _ (numbers row : List ℕ) where
 
   -- It has: the numbers are in front of the later places.
   pub copied_whole : (after : List ℕ) → length numbers ≤ length row → after ≡ sets row 0 numbers
-      → left_part (part_with fine (length numbers)) after ≡ copied numbers row
+      → left_part (part_with no_refusal (length numbers)) after ≡ copied numbers row
   unfolding copied
-  copied_whole after room e = rw (le-ltb _ _ room) (ap (left_part (part_with fine (length numbers))) (e ∙ sets_front row numbers room))
+  copied_whole after room e = rw (le-ltb _ _ room) (ap (left_part (part_with no_refusal (length numbers))) (e ∙ sets_front row numbers room))
 
 -- The shorter part has no more numbers than were said to be filled.
 pub shorter_few : (first second : List ℕ) (in_first in_second most : ℕ) → in_first < most → in_second < most

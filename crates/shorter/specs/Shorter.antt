@@ -4,7 +4,7 @@ use Rattle.table.specs.Refusals.{refusal_in, place_in}
 use Rattle.table.specs.declared.Name.TheVariants.{Room}
 use Rattle.listing.specs.Passing.{filled_with}
 use Rattle.shorter.specs.declared.Part.{Part}
-use Rattle.table.specs.Checks.{fine, refused, Verdict}
+use Rattle.table.specs.Checks.{no_refusal, refused, Verdict}
 
 -- The filled part of the list with fewer filled, the first if equal; nothing if a length passes its list.
 unfoldable pub shorter_of : (first second : List ℕ) → (in_first in_second : ℕ) → List ℕ
@@ -27,4 +27,4 @@ part_with v filled = record { refusal = refusal_in v; place = place_in v; filled
 
 -- A part in the first places of a row, later ones as they were; ROOM, with nothing written, where the row is too short.
 unfoldable pub copied : (part row : List ℕ) → LeftPart
-copied part row = cond (ltb (length row) (length part)) (left_part (part_with (refused Room 0) 0) row) (left_part (part_with fine (length part)) (filled_with part row))
+copied part row = cond (ltb (length row) (length part)) (left_part (part_with (refused Room 0) 0) row) (left_part (part_with no_refusal (length part)) (filled_with part row))

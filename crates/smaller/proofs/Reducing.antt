@@ -7,7 +7,7 @@ use Rattle.rows.proofs.Rows.{places_same, length_places}
 use Rattle.rows.proofs.Sums.{by_test, both_true}
 use Rattle.table.specs.Table.{Table, table_of, arcs, tail, head, capacity, network_of}
 use Rattle.table.specs.Accepted.{Accepted}
-use Rattle.table.specs.Checks.{is_fine, fine, refused, Verdict}
+use Rattle.table.specs.Checks.{is_fine, no_refusal, refused, Verdict}
 use Rattle.table.specs.declared.Name.{Name}
 use Rattle.table.proofs.Numbers.{number_positive}
 use Rattle.minimums.specs.BoundedTable.{BoundedTable}
@@ -180,7 +180,7 @@ module _ (b : BoundedTable) (stamp : ℕ) (flow side work : List ℕ) (small : S
     unfolding reducing reducing_as
     refused_reducing name place same r f = rw (← checked, same) (ap (λ (x : Reduced). left_reduced x flow side work small) f)
 
-    module _ (fine : v ≡ fine) where
+    module _ (fine : v ≡ no_refusal) where
       -- Where they do not, it gives the smaller table solved.
       pub fine_reducing : (l : LeftReduced) → l ≡ shrunk b.table stamp flow side work small → l ≡ reducing b stamp flow side work small
       unfolding reducing reducing_as
@@ -206,5 +206,5 @@ module _ (b : BoundedTable) (stamp : ℕ) (flow side work : List ℕ) (small : S
 
       go : (v : Verdict) → v ≡ reducing_verdict b (length flow) (length side) (length work) small → Reduces b.table l
       go (Ok _) checked =
-          subst⁻¹ (Reduces b.table) (same ∙ ap by (sym checked)) (shrunk_reduces b.table (fine_accepted fine checked refl) stamp flow side work small)
+          subst⁻¹ (Reduces b.table) (same ∙ ap by (sym checked)) (shrunk_reduces b.table (fine_accepted no_refusal checked refl) stamp flow side work small)
       go (Err why) checked = absurd (number_positive why.name (ap (λ (x : LeftReduced). x.reduced.answer.refusal) (sym (same ∙ ap by (sym checked))) ∙ none))

@@ -3,9 +3,9 @@
 
 ghost use Rattle.std.specs.Prelude.{◌≡◌, ◌≤◌, ◌&&◌, ◌++◌, length, take, drop, replicate};
 ghost use Rattle.rows.specs.Row.{by_place, cleared};
-ghost use Rattle.table.specs.Table.{table_of, lent_table, given_table};
+ghost use Rattle.table.specs.Table.{table_of, table_in};
 ghost use Rattle.table.specs.Accepted.{Accepted};
-ghost use Rattle.minimums.specs.BoundedTable.{lent_bounded};
+ghost use Rattle.minimums.specs.BoundedTable.{bounded_in};
 ghost use Rattle.stamps.specs.Stamp.{raised};
 ghost use Rattle.arcs.specs.Work.{InWork, work_need};
 ghost use Rattle.reach.specs.Side.{side_of};
@@ -16,31 +16,44 @@ ghost use Rattle.keeping.specs.SmallRows.{small_rows};
 ghost use Rattle.smaller.specs.Reducing.{left_reduced, reduced_with, shrunk, has_small_room, reducing, Reduces, GivenRoomToReduce};
 
 use solver::Answer;
-use table::{Name, Verdict};
+use table::{LentTable, Name, Refusal};
 
 // Marks what the source reaches and what reaches the sink over arcs of capacity above 0, by lists that stay in their row.
 fn find_live(
-    n: u32,
-    s: u32,
-    t: u32,
-    tails: &[u32],
-    heads: &[u32],
-    capacities: &[u32],
+    table: &LentTable,
     none: &[u32],
     lists: &mut [u32],
     ahead: &mut [u8],
     behind: &mut [u8],
 )
-    requires accepted { Accepted (given_table n s t tails heads capacities) × (none.now ≡ replicate (length none.now) 0) }
-    requires capacities_in_bounds { (length capacities.now ≤ length none.now) × (work_need n (length capacities.now) ≤ length lists.old)
-        × (n ≤ length ahead.old) × (n ≤ length behind.old) }
-    ensures in_work { InWork (lent_table n s t tails heads capacities) lists.new }
-    ensures fact { let table = lent_table n s t tails heads capacities in
-        (take n ahead.new ≡ from_source table) × (take n behind.new ≡ to_sink table) }
+    requires accepted { Accepted (table_in table.now) × (none.now ≡ replicate (length none.now) 0) }
+    requires capacities_in_bounds { (length table.now.capacities.now ≤ length none.now) × (work_need table.now.nodes (length table.now.capacities.now) ≤ length lists.old)
+        × (table.now.nodes ≤ length ahead.old) × (table.now.nodes ≤ length behind.old) }
+    ensures in_work { InWork (table_in table.now) lists.new }
+    ensures fact { let table = table_in table.now in
+        (take table.now.nodes ahead.new ≡ from_source table) × (take table.now.nodes behind.new ≡ to_sink table) }
 {
-    arcs::fill_work(n, tails, heads, lists);
-    reach::mark(n, s, tails, heads, capacities, none, lists, ahead);
-    reach::mark(n, t, heads, tails, capacities, none, lists, behind);
+    arcs::fill_work(table.nodes, table.tails, table.heads, lists);
+    reach::mark(
+        table.nodes,
+        table.source,
+        table.tails,
+        table.heads,
+        table.capacities,
+        none,
+        lists,
+        ahead,
+    );
+    reach::mark(
+        table.nodes,
+        table.sink,
+        table.heads,
+        table.tails,
+        table.capacities,
+        none,
+        lists,
+        behind,
+    );
 }
 
 // Solves the smaller table, whose arcs stand first in three rows.
@@ -67,13 +80,15 @@ fn solve_small(
 {
     let m = arcs as usize;
     solver::solve_table(
-        nodes,
-        source,
-        sink,
+        TODO(
+            nodes,
+            source,
+            sink,
+            &small_tails[..m],
+            &small_heads[..m],
+            &small_capacities[..m],
+        ),
         stamp,
-        &small_tails[..m],
-        &small_heads[..m],
-        &small_capacities[..m],
         flows,
         marks,
         room,
@@ -82,12 +97,7 @@ fn solve_small(
 
 // Puts the flow back, marks the side afresh by the lists that still stand, and clears the work row. The flow row has just its m places.
 fn put_all_back(
-    n: u32,
-    s: u32,
-    t: u32,
-    tails: &[u32],
-    heads: &[u32],
-    capacities: &[u32],
+    table: &LentTable,
     lists: &[u32],
     ahead: &[u8],
     behind: &[u8],
@@ -96,23 +106,40 @@ fn put_all_back(
     side: &mut [u8],
     work: &mut [u32],
 )
-    requires fact { let table = given_table n s t tails heads capacities in Accepted table × InWork table lists.now }
-    requires ahead_len { (length ahead.now ≡ n) × (length behind.now ≡ n) × (length capacities.now ≤ length flows.now)
-        × (length flow.old ≡ length capacities.now) × (n ≤ length side.old)
-        × (work_need n (length capacities.now) ≤ length work.old) }
-    ensures flow_value { let kept = arc_by ahead.now behind.now tails.now heads.now capacities.now in
-        flow.new ≡ by_place (back_by kept flows.now) (length capacities.now) }
-    ensures side_value { side.new ≡ side_of (lent_table n s t tails heads capacities) flow.new ++ drop n side.old }
-    ensures work_value { work.new ≡ cleared (work_need n (length capacities.now)) work.old }
+    requires fact { let table = table_in table.now in Accepted table × InWork table lists.now }
+    requires ahead_len { (length ahead.now ≡ table.now.nodes) × (length behind.now ≡ table.now.nodes) × (length table.now.capacities.now ≤ length flows.now)
+        × (length flow.old ≡ length table.now.capacities.now) × (table.now.nodes ≤ length side.old)
+        × (work_need table.now.nodes (length table.now.capacities.now) ≤ length work.old) }
+    ensures flow_value { let kept = arc_by ahead.now behind.now table.now.tails.now table.now.heads.now table.now.capacities.now in
+        flow.new ≡ by_place (back_by kept flows.now) (length table.now.capacities.now) }
+    ensures side_value { side.new ≡ side_of (table_in table.now) flow.new ++ drop table.now.nodes side.old }
+    ensures work_value { work.new ≡ cleared (work_need table.now.nodes (length table.now.capacities.now)) work.old }
 {
-    keeping::put_back(ahead, behind, tails, heads, capacities, flows, flow);
-    reach::mark(n, s, tails, heads, capacities, flow, lists, side);
-    rows::clear(work, work::work_need(n, capacities.len()));
+    keeping::put_back(
+        ahead,
+        behind,
+        table.tails,
+        table.heads,
+        table.capacities,
+        flows,
+        flow,
+    );
+    reach::mark(
+        table.nodes,
+        table.source,
+        table.tails,
+        table.heads,
+        table.capacities,
+        flow,
+        lists,
+        side,
+    );
+    rows::clear(work, work::work_need(table.nodes, table.capacities.len()));
 }
 
 // What the call returns: solving's result of the smaller table under the old stamp, and the smaller table's sizes, ends and stamp.
 #[repr(C)]
-#[derive(Clone, Copy)]
+#[derive(Clone, Copy, Debug, PartialEq, Eq)]
 pub struct Reduced {
     pub answer: Answer,
     pub nodes: u32,
@@ -131,13 +158,8 @@ fn raise_stamp(stamp: u32) -> u32
 
 // The call on an accepted table with room, whose live nodes are marked and whose lists stand. Rows of marks and numbers have n places, the flow row m.
 fn reduce_marked(
-    n: u32,
-    s: u32,
-    t: u32,
+    table: &LentTable,
     stamp: u32,
-    tails: &[u32],
-    heads: &[u32],
-    capacities: &[u32],
     lists: &[u32],
     ahead: &[u8],
     behind: &[u8],
@@ -154,23 +176,23 @@ fn reduce_marked(
     nodes_from: &mut [u32],
     arcs_from: &mut [u32],
 ) -> Reduced
-    requires fact { let table = given_table n s t tails heads capacities in
+    requires fact { let table = table_in table.now in
         Accepted table × InWork table lists.now × (ahead.now ≡ from_source table) × (behind.now ≡ to_sink table) }
-    requires ahead_len { (length ahead.now ≡ n) × (length behind.now ≡ n) × (length numbers.old ≡ n) × (4096 ≤ length flows.old)
-        × (512 ≤ length marks.old) × (10241 ≤ length room.old) × (length flow.old ≡ length capacities.now) }
-    requires given_room_to_reduce { GivenRoomToReduce n capacities.now side.old work.old small_tails.old small_heads.old small_capacities.old nodes_from.old arcs_from.old }
+    requires ahead_len { (length ahead.now ≡ table.now.nodes) × (length behind.now ≡ table.now.nodes) × (length numbers.old ≡ table.now.nodes) × (4096 ≤ length flows.old)
+        × (512 ≤ length marks.old) × (10241 ≤ length room.old) × (length flow.old ≡ length table.now.capacities.now) }
+    requires given_room_to_reduce { GivenRoomToReduce table.now.nodes table.now.capacities.now side.old work.old small_tails.old small_heads.old small_capacities.old nodes_from.old arcs_from.old }
     ensures { let small_old = small_rows small_tails.old small_heads.old small_capacities.old nodes_from.old arcs_from.old in
         let small_new = small_rows small_tails.new small_heads.new small_capacities.new nodes_from.new arcs_from.new in
-        let table = lent_table n s t tails heads capacities in
+        let table = table_in table.now in
         left_reduced result flow.new side.new work.new small_new
         ≡ shrunk table stamp flow.old side.old work.old small_old }
 {
     let sizes = keeping::write_small(
-        s,
-        t,
-        tails,
-        heads,
-        capacities,
+        table.source,
+        table.sink,
+        table.tails,
+        table.heads,
+        table.capacities,
         ahead,
         behind,
         numbers,
@@ -197,28 +219,21 @@ fn reduce_marked(
         marks,
         room,
     );
-    put_all_back(
-        n, s, t, tails, heads, capacities, lists, ahead, behind, flows, flow, side, work,
-    );
+    put_all_back(table, lists, ahead, behind, flows, flow, side, work);
     Reduced {
-        answer: answer,
-        nodes: nodes,
-        arcs: arcs,
-        source: source,
-        sink: sink,
+        answer,
+        nodes,
+        arcs,
+        source,
+        sink,
         stamp: raise_stamp(stamp),
     }
 }
 
 // The same over rows with room.
 fn reduce_cut(
-    n: u32,
-    s: u32,
-    t: u32,
+    table: &LentTable,
     stamp: u32,
-    tails: &[u32],
-    heads: &[u32],
-    capacities: &[u32],
     lists: &[u32],
     ahead: &[u8],
     behind: &[u8],
@@ -235,27 +250,22 @@ fn reduce_cut(
     nodes_from: &mut [u32],
     arcs_from: &mut [u32],
 ) -> Reduced
-    requires fact { let table = given_table n s t tails heads capacities in
-        Accepted table × InWork table lists.now × (take n ahead.now ≡ from_source table) × (take n behind.now ≡ to_sink table) }
-    requires n_in_bounds { (n ≤ length ahead.now) × (n ≤ length behind.now) × (n ≤ length numbers.old) × (4096 ≤ length flows.old)
-        × (512 ≤ length marks.old) × (10241 ≤ length room.old) × (length capacities.now ≤ length flow.old) }
-    requires given_room_to_reduce { GivenRoomToReduce n capacities.now side.old work.old small_tails.old small_heads.old small_capacities.old nodes_from.old arcs_from.old }
+    requires fact { let table = table_in table.now in
+        Accepted table × InWork table lists.now × (take table.now.nodes ahead.now ≡ from_source table) × (take table.now.nodes behind.now ≡ to_sink table) }
+    requires n_in_bounds { (table.now.nodes ≤ length ahead.now) × (table.now.nodes ≤ length behind.now) × (table.now.nodes ≤ length numbers.old) × (4096 ≤ length flows.old)
+        × (512 ≤ length marks.old) × (10241 ≤ length room.old) × (length table.now.capacities.now ≤ length flow.old) }
+    requires given_room_to_reduce { GivenRoomToReduce table.now.nodes table.now.capacities.now side.old work.old small_tails.old small_heads.old small_capacities.old nodes_from.old arcs_from.old }
     ensures { let small_old = small_rows small_tails.old small_heads.old small_capacities.old nodes_from.old arcs_from.old in
         let small_new = small_rows small_tails.new small_heads.new small_capacities.new nodes_from.new arcs_from.new in
-        let table = lent_table n s t tails heads capacities in
+        let table = table_in table.now in
         left_reduced result flow.new side.new work.new small_new
         ≡ shrunk table stamp flow.old side.old work.old small_old }
 {
-    let nodes = n as usize;
-    let m = capacities.len();
+    let nodes = table.nodes as usize;
+    let m = table.capacities.len();
     reduce_marked(
-        n,
-        s,
-        t,
+        table,
         stamp,
-        tails,
-        heads,
-        capacities,
         lists,
         &ahead[..nodes],
         &behind[..nodes],
@@ -276,13 +286,8 @@ fn reduce_cut(
 
 // The call on an accepted table with room: it works in room of its own beside the lent rows.
 fn reduce_accepted(
-    n: u32,
-    s: u32,
-    t: u32,
+    table: &LentTable,
     stamp: u32,
-    tails: &[u32],
-    heads: &[u32],
-    capacities: &[u32],
     flow: &mut [u32],
     side: &mut [u8],
     work: &mut [u32],
@@ -292,11 +297,11 @@ fn reduce_accepted(
     nodes_from: &mut [u32],
     arcs_from: &mut [u32],
 ) -> Reduced
-    requires accepted { Accepted (given_table n s t tails heads capacities) × (length capacities.now ≤ length flow.old) }
-    requires given_room_to_reduce { GivenRoomToReduce n capacities.now side.old work.old small_tails.old small_heads.old small_capacities.old nodes_from.old arcs_from.old }
+    requires accepted { Accepted (table_in table.now) × (length table.now.capacities.now ≤ length flow.old) }
+    requires given_room_to_reduce { GivenRoomToReduce table.now.nodes table.now.capacities.now side.old work.old small_tails.old small_heads.old small_capacities.old nodes_from.old arcs_from.old }
     ensures { let small_old = small_rows small_tails.old small_heads.old small_capacities.old nodes_from.old arcs_from.old in
         let small_new = small_rows small_tails.new small_heads.new small_capacities.new nodes_from.new arcs_from.new in
-        let table = lent_table n s t tails heads capacities in
+        let table = table_in table.now in
         left_reduced result flow.new side.new work.new small_new
         ≡ shrunk table stamp flow.old side.old work.old small_old }
 {
@@ -308,26 +313,10 @@ fn reduce_accepted(
     let mut flows = [0u32; 4096];
     let mut marks = [0u8; 512];
     let mut room = [0u32; 4 * 512 + 2 * 4096 + 1];
-    find_live(
-        n,
-        s,
-        t,
-        tails,
-        heads,
-        capacities,
-        &none,
-        &mut lists,
-        &mut ahead,
-        &mut behind,
-    );
+    find_live(table, &none, &mut lists, &mut ahead, &mut behind);
     reduce_cut(
-        n,
-        s,
-        t,
+        table,
         stamp,
-        tails,
-        heads,
-        capacities,
         &lists,
         &ahead,
         &behind,
@@ -393,14 +382,8 @@ fn not_reduced(name: Name, place: u32) -> Reduced
 
 // Makes the smaller table, solves it, puts its flow back and marks the side afresh; or the first refusal, with nothing written.
 pub fn reduce(
-    n: u32,
-    s: u32,
-    t: u32,
+    bounded: &LentBounded,
     stamp: u32,
-    tails: &[u32],
-    heads: &[u32],
-    capacities: &[u32],
-    minimums: &[u32],
     flow: &mut [u32],
     side: &mut [u8],
     work: &mut [u32],
@@ -412,35 +395,30 @@ pub fn reduce(
 ) -> Reduced
     ensures exact { let small_old = small_rows small_tails.old small_heads.old small_capacities.old nodes_from.old arcs_from.old in
         let small_new = small_rows small_tails.new small_heads.new small_capacities.new nodes_from.new arcs_from.new in
-        let table = lent_bounded n s t tails heads capacities minimums in
+        let table = bounded_in bounded.now in
         left_reduced result flow.new side.new work.new small_new
         ≡ reducing table stamp flow.old side.old work.old small_old }
     ensures means { let small_old = small_rows small_tails.old small_heads.old small_capacities.old nodes_from.old arcs_from.old in
         let small_new = small_rows small_tails.new small_heads.new small_capacities.new nodes_from.new arcs_from.new in
-        let table = lent_table n s t tails heads capacities in
+        let table = table_in bounded.now.table in
         result.answer.refusal ≡ 0 → Reduces table (left_reduced result flow.new side.new work.new small_new) }
 {
-    let solving = solver::has_room(n, capacities.len(), flow.len(), side.len(), work.len());
+    let solving = solver::has_room(&bounded.table, flow.len(), side.len(), work.len());
     let room = has_small_room(
         solving,
-        n,
-        capacities.len(),
+        bounded.table.nodes,
+        bounded.table.capacities.len(),
         small_tails.len(),
         small_heads.len(),
         small_capacities.len(),
         nodes_from.len(),
         arcs_from.len(),
     );
-    match minimums::plain_check(n, tails, heads, capacities, minimums, s, t, room) {
-        Verdict::Refused(name, place) => not_reduced(name, place),
-        Verdict::Fine => reduce_accepted(
-            n,
-            s,
-            t,
+    match minimums::plain_check(bounded, room) {
+        Err(refusal) => not_reduced(name, place),
+        Ok(()) => reduce_accepted(
+            &bounded.table,
             stamp,
-            tails,
-            heads,
-            capacities,
             flow,
             side,
             work,

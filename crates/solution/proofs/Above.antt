@@ -8,7 +8,7 @@ use lib.Seq.{drop-cons}
 use borrow.Author.Tests.{lt-ltb, le-ltb}
 use Rattle.table.specs.declared.Name.TheVariants.{Solution}
 use Rattle.solution.specs.Writing.{first_above}
-use Rattle.table.specs.Checks.{fine, refused}
+use Rattle.table.specs.Checks.{no_refusal, refused}
 
 module _ (capacities flow : List ℕ) (k : ℕ) where
   -- That at k is above: it is the first from k on,
@@ -23,6 +23,6 @@ module _ (capacities flow : List ℕ) (k : ℕ) where
   above_later a b h = rw (add-one, drop-cons capacities k 0 a, drop-cons flow k 0 b, le-ltb (get_or capacities k 0) (get_or flow k 0) h) refl
 
   -- and past the last arc there is none.
-  pub above_end : length capacities ≤ k → first_above k (drop k capacities) (drop k flow) ≡ fine
+  pub above_end : length capacities ≤ k → first_above k (drop k capacities) (drop k flow) ≡ no_refusal
   unfolding first_above
   above_end h = rw (drop_of_length-le capacities h) refl

@@ -26,7 +26,7 @@ use Rattle.solution.specs.declared.Lines.TheVariants.{All, Stop}
 use Rattle.solution.specs.declared.ReadBack.{ReadBack}
 use Rattle.solution.specs.Reading.{left, back_with, left_by, reading_as, reading}
 use Rattle.solution.specs.Rows.{Finds}
-use Rattle.table.specs.Checks.{fine, refused, Verdict}
+use Rattle.table.specs.Checks.{no_refusal, refused, Verdict}
 
 -- A row has at most m first numbers,
 take_most : (m : ℕ) (row : List ℕ) → length (take m row) ≤ m
@@ -87,10 +87,10 @@ module _ (b : BoundedTable) (text flow : List ℕ) (v : Verdict) (verdict : v �
   reading_refused back name place e f = rw (← verdict, e, f) refl
 
   -- None.
-  pub reading_fine : v ≡ fine → left_by (text_words b.table.tails b.table.heads b.table.capacities text) flow ≡ reading b text flow
+  pub reading_fine : v ≡ no_refusal → left_by (text_words b.table.tails b.table.heads b.table.capacities text) flow ≡ reading b text flow
   unfolding reading reading_as
   reading_fine e = rw (← verdict, e) refl
 
   -- The table is accepted then, with room for its flows.
-  pub reading_accepts : v ≡ fine → Accepted b.table × (arcs b.table ≤ length flow)
+  pub reading_accepts : v ≡ no_refusal → Accepted b.table × (arcs b.table ≤ length flow)
   reading_accepts e = let (ok, room) = text_accepts b _ _ v verdict e in (ok, leb-true _ _ room)

@@ -14,7 +14,7 @@ use Rattle.rows.specs.Row.{at_place}
 use Rattle.rows.proofs.Sums.{by_test}
 use Rattle.table.specs.Table.{arcs}
 use Rattle.table.specs.Accepted.{Accepted}
-use Rattle.table.specs.Checks.{is_fine, refuse_if, or_else, fine, Verdict}
+use Rattle.table.specs.Checks.{is_fine, refuse_if, or_else, no_refusal, Verdict}
 use Rattle.table.specs.Refusals.{number_of}
 use Rattle.table.specs.declared.Name.TheVariants.{Room, Long, Solution}
 use Rattle.table.proofs.Faults.{passed, or_else_fine}
@@ -60,7 +60,7 @@ module _ (b : BoundedTable) (fine : is_fine (plain_check b true) ≡ true) (lent
   read_short : (text : List ℕ) → (reading b text lent).back.refusal ≡ 0 → length text ≤ 1048576
   unfolding reading reading_as text_verdict
   read_short text e =
-      let others = or_else (plain_check b true) (refuse_if (not (leb (arcs b.table) (length lent))) Room 0 fine) in
+      let others = or_else (plain_check b true) (refuse_if (not (leb (arcs b.table) (length lent))) Room 0 no_refusal) in
       by_test (ltb 1048576 (length text))
       (λ h. absurd (number_positive Long (sym (ap (λ (x : Bool). (reading_as (refuse_if x Long 0 others) b.table text lent).back.refusal) h) ∙ e)))
       (λ h. ltb-false _ _ h)
@@ -84,7 +84,7 @@ module _ (b : BoundedTable) (fine : is_fine (plain_check b true) ≡ true) (lent
   refused_short : (text : List ℕ) → (reading b text lent).back.refusal ≡ number_of Solution → length text ≤ 1048576
   unfolding reading reading_as text_verdict
   refused_short text e =
-      let others = or_else (plain_check b true) (refuse_if (not (leb (arcs b.table) (length lent))) Room 0 fine) in
+      let others = or_else (plain_check b true) (refuse_if (not (leb (arcs b.table) (length lent))) Room 0 no_refusal) in
       by_test (ltb 1048576 (length text))
       (λ h.
       let other : number_of Long ≡ number_of Solution = sym (ap (λ (x : Bool). (reading_as (refuse_if x Long 0 others) b.table text lent).back.refusal) h) ∙ e in
@@ -122,7 +122,7 @@ read_written b value flow text lent e room = by_verdict (writing_verdict b value
         ≡ left (back_with 0 0 value) (take (arcs b.table) flow ++ drop (arcs b.table) lent)
     by_verdict (Err why) f z = absurd (number_positive why.name z)
     by_verdict (Ok _) f z =
-        let w = writes_fine b value flow (length text) fine (sym f) refl in
+        let w = writes_fine b value flow (length text) no_refusal (sym f) refl in
         let written = solution_text b.table value flow in
         let row = take (arcs b.table) flow in
         let whole : row ++ drop (arcs b.table) flow ≡ flow = take-append-drop (arcs b.table) flow in
@@ -138,7 +138,7 @@ read_written b value flow text lent e room = by_verdict (writing_verdict b value
         rw (take_at written (drop (length written) text) (length written) refl) (reads_solution b w.checked lent room written value row solution)
 
 -- Flows that are all within their capacities.
-within_fine : (place : ℕ) (capacities flow : List ℕ) → Within capacities flow → fine ≡ first_above place capacities flow
+within_fine : (place : ℕ) (capacities flow : List ℕ) → Within capacities flow → no_refusal ≡ first_above place capacities flow
 unfolding first_above
 within_fine place [] flow h = refl
 within_fine place (c ∷ cs) [] h = refl
@@ -158,7 +158,7 @@ writes_solution b fine text value row rest s other fits =
     let within : Within t.capacities flow = λ k l. rw (get_or-append row rest 0 k (omega arith)) (s.within k l) in
     let numbers = numbers_fine t.capacities value flow (within_fine 0 t.capacities flow within) refl s.value_fits in
     let room = flow_long t value flow (length other) (rw length-append (omega arith)) (length text) (ap length (sym is)) in
-    let verdict : fine ≡ writing_verdict b value flow (length other) = verdict_numbers b value flow (length other) refl fine room (le-leb (length text) (length other) fits) numbers in
+    let verdict : no_refusal ≡ writing_verdict b value flow (length other) = verdict_numbers b value flow (length other) refl fine room (le-leb (length text) (length other) fits) numbers in
     rw (← verdict, is) refl
 
 -- What was read, written again into a row with room for it, is the same text.

@@ -10,7 +10,7 @@ use borrow.Author.Tests.{lt-ltb, le-ltb, ltb-false, le-leb, lt-leb, leb-true, no
 use Rattle.rows.proofs.Sums.{both_true}
 use Rattle.table.specs.Table.{Table, arcs}
 use Rattle.table.specs.Accepted.{Accepted}
-use Rattle.table.specs.Checks.{is_fine, refuse_if, fine, refused, Verdict}
+use Rattle.table.specs.Checks.{is_fine, refuse_if, no_refusal, refused, Verdict}
 use Rattle.table.specs.Refusals.{number_of}
 use Rattle.table.specs.declared.Name.{Name}
 use Rattle.table.specs.declared.Name.TheVariants.{Room, Solution}
@@ -79,7 +79,7 @@ module _ (capacities : List ℕ) (value : ℕ) (flow : List ℕ) {above : Verdic
   numbers_value e h = gives_way looked e (rw (lt-ltb most_value value h) refl)
 
   -- or neither.
-  pub numbers_fine : is_fine above ≡ true → value ≤ most_value → fine ≡ numbers_verdict capacities value flow
+  pub numbers_fine : is_fine above ≡ true → value ≤ most_value → no_refusal ≡ numbers_verdict capacities value flow
   unfolding numbers_verdict
   numbers_fine e h = gives_way looked e (rw (le-ltb most_value value h) refl)
 
@@ -99,7 +99,7 @@ pub record Writes (b : BoundedTable) (value : ℕ) (flow : List ℕ) (text : ℕ
   pub value_fits : value ≤ most_value
 
 -- It is all that is asked.
-pub writes_fine : (b : BoundedTable) (value : ℕ) (flow : List ℕ) (text : ℕ) (v : Verdict) → v ≡ writing_verdict b value flow text → v ≡ fine → Writes b value flow text
+pub writes_fine : (b : BoundedTable) (value : ℕ) (flow : List ℕ) (text : ℕ) (v : Verdict) → v ≡ writing_verdict b value flow text → v ≡ no_refusal → Writes b value flow text
 unfolding writing_verdict numbers_verdict has_text_room
 writes_fine b value flow text v e f =
     let (table, more) = both_fine (plain_check b true) _ (ap is_fine (sym e ∙ f)) in
@@ -123,7 +123,7 @@ module _ (b : BoundedTable) (value : ℕ) (flow text : List ℕ) (v : Verdict) (
   writing_refused written name place e w = rw (← verdict, e, w) refl
 
   -- and else the text stands at its front.
-  pub writing_fine : (lines end : ℕ) (first text' : List ℕ) → v ≡ fine → Wrote text 0 (line_of value_front value) first lines
+  pub writing_fine : (lines end : ℕ) (first text' : List ℕ) → v ≡ no_refusal → Wrote text 0 (line_of value_front value) first lines
       → Wrote first lines (flow_lines b.table.tails b.table.heads flow) text' end → left (written_with 0 0 end) text' ≡ writing b value flow text
   unfolding writing writing_as solution_text
   writing_fine lines end first text' e p q =

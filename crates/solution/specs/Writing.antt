@@ -1,7 +1,7 @@
 -- Document 02, CR 1: what writing a solution returns, and what the lent text row holds afterwards.
 use Rattle.std.specs.Prelude.{ℕ, suc, Bool, true, not, ◌&&◌, List, [], ◌∷◌, ◌++◌, ltb, leb, length, drop, Ok, Err}
 use Rattle.table.specs.Table.{Table, arcs}
-use Rattle.table.specs.Checks.{refuse_if, or_else, fine, Verdict}
+use Rattle.table.specs.Checks.{refuse_if, or_else, no_refusal, Verdict}
 use Rattle.table.specs.Refusals.{number_of}
 use Rattle.table.specs.declared.Name.TheVariants.{Room, Solution}
 use Rattle.minimums.specs.BoundedTable.{BoundedTable}
@@ -28,14 +28,14 @@ has_text_room t value flow text = leb (arcs t) (length flow) && leb (length (sol
 
 -- SOLUTION at the first flow above its capacity, of arcs whose places start at `place`.
 unfoldable pub first_above : (place : ℕ) (capacities flow : List ℕ) → Verdict
-first_above place [] flow = fine
-first_above place (c ∷ cs) [] = fine
+first_above place [] flow = no_refusal
+first_above place (c ∷ cs) [] = no_refusal
 first_above place (c ∷ cs) (f ∷ fs) = refuse_if (ltb c f) Solution place (first_above (suc place) cs fs)
 
 -- SOLUTION: at the first flow above its capacity, or at m for a value above 4,096,000,000.
 unfoldable pub numbers_verdict : (capacities : List ℕ) (value : ℕ) (flow : List ℕ) → Verdict
 numbers_verdict capacities value flow =
-    or_else (first_above 0 capacities flow) (refuse_if (ltb most_value value) Solution (length capacities) fine)
+    or_else (first_above 0 capacities flow) (refuse_if (ltb most_value value) Solution (length capacities) no_refusal)
 
 -- The order: the table's own checks with BOUNDED, ROOM, SOLUTION.
 unfoldable pub writing_verdict : BoundedTable → (value : ℕ) (flow : List ℕ) (text : ℕ) → Verdict

@@ -2,9 +2,9 @@
 #![tactic(auto)]
 
 ghost use Rattle.std.specs.Prelude.{◌≡◌, ◌≤◌, length, drop};
-ghost use Rattle.table.specs.Table.{lent_table};
+ghost use Rattle.table.specs.Table.{table_in};
 ghost use Rattle.table.specs.Refusals.{number_of};
-ghost use Rattle.minimums.specs.BoundedTable.{lent_bounded};
+ghost use Rattle.minimums.specs.BoundedTable.{bounded_in};
 ghost use Rattle.pen.specs.Printed.{printed};
 ghost use Rattle.pen.specs.Wrote.{Wrote};
 ghost use Rattle.wording.specs.Text.{line_of, flow_front, flow_lines};
@@ -16,11 +16,11 @@ ghost use Rattle.solution.specs.Reading.{left as leftRead};
 ghost use Rattle.solution.specs.Rows.{ArcsWith, Finds};
 
 use scan::Number;
-use table::{Name, Verdict};
+use table::{LentTable, Name, Refusal};
 
 // What writing returns: a refusal's number and place, or 0 with how many bytes were filled.
 #[repr(C)]
-#[derive(Clone, Copy)]
+#[derive(Clone, Copy, Debug, PartialEq, Eq)]
 pub struct Written {
     pub refusal: u32,
     pub place: u32,
@@ -29,7 +29,7 @@ pub struct Written {
 
 // What reading back returns: a refusal's number and place, or 0 with the value.
 #[repr(C)]
-#[derive(Clone, Copy)]
+#[derive(Clone, Copy, Debug, PartialEq, Eq)]
 pub struct ReadBack {
     pub refusal: u32,
     pub place: u32,
@@ -37,7 +37,7 @@ pub struct ReadBack {
 }
 
 // What was found of the lines of the arcs: all of them, or the first that no solution text has there.
-#[derive(Clone, Copy)]
+#[derive(Clone, Copy, Debug, PartialEq, Eq)]
 pub enum Lines {
     All,
     Stop(u32),
@@ -117,116 +117,72 @@ fn put_flows(out: &mut [u8], at: usize, tails: &[u32], heads: &[u32], flow: &[u3
 }
 
 // SOLUTION at the first flow above its capacity.
-fn first_above(capacities: &[u32], flow: &[u32]) -> Verdict
+fn first_above(capacities: &[u32], flow: &[u32]) -> Result<(), Refusal>
     requires { (length capacities.now ≤ 4096) × (length capacities.now ≤ length flow.now) }
     ensures { result ≡ first_above 0 capacities.now flow.now }
 {
     let mut place: usize = 0;
     while place < capacities.len() {
         if capacities[place] < flow[place] {
-            return Verdict::Refused(Name::Solution, place as u32);
+            return Err(Name::Solution.at(place as u32));
         }
         place += 1;
     }
-    Verdict::Fine
+    Ok(())
 }
 
 // SOLUTION at the first flow above its capacity, or at m for a value that no flow has.
-fn numbers_verdict(capacities: &[u32], value: u64, flow: &[u32]) -> Verdict
+fn numbers_verdict(capacities: &[u32], value: u64, flow: &[u32]) -> Result<(), Refusal>
     requires { (length capacities.now ≤ 4096) × (length capacities.now ≤ length flow.now) }
     ensures { result ≡ numbers_verdict capacities.now value flow.now }
 {
-    let above = first_above(capacities, flow);
-    if !table::is_fine(above) {
-        return above;
-    }
+    first_above(capacities, flow)?;
     if 4096000000 < value {
-        return Verdict::Refused(Name::Solution, capacities.len() as u32);
+        return Err(Name::Solution.at(capacities.len() as u32));
     }
-    Verdict::Fine
+    Ok(())
 }
 
 // Whether the flow row has a flow for each arc, and a text row of this length has room for their text.
-fn has_text_room(
-    n: u32,
-    s: u32,
-    t: u32,
-    tails: &[u32],
-    heads: &[u32],
-    capacities: &[u32],
-    value: u64,
-    flow: &[u32],
-    text: usize,
-) -> bool
-    requires { ArcsWith tails.now heads.now capacities.now × (length capacities.now ≡ length tails.now) }
-    ensures { result ≡ has_text_room (lent_table n s t tails heads capacities) value flow.now text }
+fn has_text_room(table: &LentTable, value: u64, flow: &[u32], text: usize) -> bool
+    requires { ArcsWith table.now.tails.now table.now.heads.now table.now.capacities.now × (length table.now.capacities.now ≡ length table.now.tails.now) }
+    ensures { result ≡ has_text_room (table_in table.now) value flow.now text }
 {
-    if flow.len() < capacities.len() {
+    if flow.len() < table.capacities.len() {
         return false;
     }
-    digit_count(value) + 3 + lines_length(tails, heads, flow) <= text
+    digit_count(value) + 3 + lines_length(table.tails, table.heads, flow) <= text
 }
 
 // The first refusal of writing into a text row of this length, if any.
 fn writing_verdict(
-    n: u32,
-    s: u32,
-    t: u32,
-    tails: &[u32],
-    heads: &[u32],
-    capacities: &[u32],
-    minimums: &[u32],
+    bounded: &LentBounded,
     value: u64,
     flow: &[u32],
     text: usize,
-) -> Verdict
-    ensures { result ≡ writing_verdict (lent_bounded n s t tails heads capacities minimums) value flow.now text }
+) -> Result<(), Refusal>
+    ensures { result ≡ writing_verdict (bounded_in bounded.now) value flow.now text }
 {
-    let found = minimums::plain_check(n, tails, heads, capacities, minimums, s, t, true);
-    if !table::is_fine(found) {
-        return found;
+    minimums::plain_check(bounded, true)?;
+    if !has_text_room(&bounded.table, value, flow, text) {
+        return Err(Name::Room.at(0));
     }
-    if !has_text_room(n, s, t, tails, heads, capacities, value, flow, text) {
-        return Verdict::Refused(Name::Room, 0);
-    }
-    numbers_verdict(capacities, value, flow)
+    numbers_verdict(bounded.table.capacities, value, flow)
 }
 
 // Writes the solution text of a value and a flow row to the front of a text row and returns how many bytes it has; or gives a refusal and writes nothing.
-pub fn write(
-    n: u32,
-    s: u32,
-    t: u32,
-    tails: &[u32],
-    heads: &[u32],
-    capacities: &[u32],
-    minimums: &[u32],
-    value: u64,
-    flow: &[u32],
-    text: &mut [u8],
-) -> Written
-    ensures { leftWritten result text.new ≡ writing (lent_bounded n s t tails heads capacities minimums) value flow.now text.old }
+pub fn write(bounded: &LentBounded, value: u64, flow: &[u32], text: &mut [u8]) -> Written
+    ensures { leftWritten result text.new ≡ writing (bounded_in bounded.now) value flow.now text.old }
 {
-    match writing_verdict(
-        n,
-        s,
-        t,
-        tails,
-        heads,
-        capacities,
-        minimums,
-        value,
-        flow,
-        text.len(),
-    ) {
-        Verdict::Refused(name, place) => Written {
+    match writing_verdict(bounded, value, flow, text.len()) {
+        Err(refusal) => Written {
             refusal: table::number(name),
-            place: place,
+            place,
             filled: 0,
         },
-        Verdict::Fine => {
-            let lines = pen::put_line(text, 0, b"s ", value);
-            let end = put_flows(text, lines, tails, heads, flow);
+        Ok(()) => {
+            let lines = pen::put_line(text, 0, b"bounded.table.source ", value);
+            let end = put_flows(text, lines, bounded.table.tails, bounded.table.heads, flow);
             Written {
                 refusal: 0,
                 place: 0,
@@ -308,7 +264,7 @@ fn not_read(name: Name, place: u32) -> ReadBack
 {
     ReadBack {
         refusal: table::number(name),
-        place: place,
+        place,
         value: 0,
     }
 }
@@ -365,31 +321,21 @@ fn read_text(
 }
 
 // Reads a solution text back against its table: gives the value and writes the flows into the first m places of the flow row; or gives a refusal and writes nothing.
-pub fn read(
-    n: u32,
-    s: u32,
-    t: u32,
-    tails: &[u32],
-    heads: &[u32],
-    capacities: &[u32],
-    minimums: &[u32],
-    text: &[u8],
-    flow: &mut [u32],
-) -> ReadBack
-    ensures { leftRead result flow.new ≡ reading (lent_bounded n s t tails heads capacities minimums) text.now flow.old }
+pub fn read(bounded: &LentBounded, text: &[u8], flow: &mut [u32]) -> ReadBack
+    ensures { leftRead result flow.new ≡ reading (bounded_in bounded.now) text.now flow.old }
 {
     match intake::text_verdict(
-        n,
-        s,
-        t,
-        tails,
-        heads,
-        capacities,
-        minimums,
+        bounded,
         text.len(),
-        capacities.len() <= flow.len(),
+        bounded.table.capacities.len() <= flow.len(),
     ) {
-        Verdict::Refused(name, place) => not_read(name, place),
-        Verdict::Fine => read_text(tails, heads, capacities, text, flow),
+        Err(refusal) => not_read(name, place),
+        Ok(()) => read_text(
+            bounded.table.tails,
+            bounded.table.heads,
+            bounded.table.capacities,
+            text,
+            flow,
+        ),
     }
 }

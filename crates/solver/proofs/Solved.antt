@@ -13,7 +13,7 @@ use lib.Seq.{sets, take_at, length-take-le}
 use Rattle.rows.specs.Row.{at_place, cleared}
 use Rattle.network.specs.Network.{inflow, outflow}
 use Rattle.table.specs.Table.{Table, arcs, network_of}
-use Rattle.table.specs.Checks.{is_fine, fine, refused, Verdict}
+use Rattle.table.specs.Checks.{is_fine, no_refusal, refused, Verdict}
 use Rattle.table.specs.Accepted.{Accepted}
 use Rattle.table.specs.declared.Name.{Name}
 use Rattle.table.proofs.Numbers.{number_positive}
@@ -144,16 +144,16 @@ module _ (t : Table) (stamp : ℕ) (flow side work : List ℕ) (v : Verdict) (fo
   refused_solving name place e r f = rw (← found, e) (ap (λ (a : Answer). left a flow side work) f)
 
   -- Where they do not, it gives the solved table.
-  pub fine_solving : v ≡ fine → (l : Left) → l ≡ solved t stamp flow side work → l ≡ solving t stamp flow side work
+  pub fine_solving : v ≡ no_refusal → (l : Left) → l ≡ solved t stamp flow side work → l ≡ solving t stamp flow side work
   unfolding solving solving_as
   fine_solving e l f = rw (← found, e) f
 
   -- A table that passes is accepted,
-  pub fine_accepted : v ≡ fine → Accepted t
+  pub fine_accepted : v ≡ no_refusal → Accepted t
   fine_accepted e = (check_accepts t (has_room t.nodes (arcs t) (length flow) (length side) (length work)) (ap is_fine (sym found ∙ e))).0
 
   -- and the rows have room.
-  pub fine_roomy : v ≡ fine → Roomy t.nodes (arcs t) (length flow) (length side) (length work)
+  pub fine_roomy : v ≡ no_refusal → Roomy t.nodes (arcs t) (length flow) (length side) (length work)
   fine_roomy e =
       room_roomy _ _ _ _ _ (check_accepts t (has_room t.nodes (arcs t) (length flow) (length side) (length work)) (ap is_fine (sym found ∙ e))).1
 
@@ -179,7 +179,7 @@ solving_meets t stamp flow side work l same none = go (solving_verdict t (length
   where
     go : (v : Verdict) → v ≡ solving_verdict t (length flow) (length side) (length work) → Meets t l
     go (Ok _) e =
-        subst (Meets t) (fine_solving t stamp flow side work fine e refl (solved t stamp flow side work) refl ∙ sym same)
-        (solved_meets t stamp flow side work (fine_accepted t stamp flow side work fine e refl))
+        subst (Meets t) (fine_solving t stamp flow side work no_refusal e refl (solved t stamp flow side work) refl ∙ sym same)
+        (solved_meets t stamp flow side work (fine_accepted t stamp flow side work no_refusal e refl))
     go (Err why) e =
         absurd (number_positive why.name (ap (λ (x : Left). x.answer.refusal) (refused_solving t stamp flow side work (refused why.name why.place) e why.name why.place refl (refusal why.name why.place) refl ∙ sym same) ∙ none))

@@ -7,7 +7,7 @@ use mathlib.Core.List.{List}
 use lib.Dec.{ltb}
 use lib.ListN.{length}
 use Rattle.table.specs.declared.Name.TheVariants.{Long}
-use Rattle.table.specs.Checks.{is_fine, fine, Verdict}
+use Rattle.table.specs.Checks.{is_fine, Verdict}
 use Rattle.minimums.specs.Checks.{bounded_check}
 use Rattle.minimums.proofs.Faults.{bounded_accepts}
 use Rattle.scan.specs.Parts.{lines}

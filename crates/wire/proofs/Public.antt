@@ -9,7 +9,7 @@ use borrow.Author.Tests.{eq-eqb, ne_eqb}
 use lib.Dec.{eqb, ltb}
 use lib.ListN.{length}
 use Rattle.table.specs.Table.{Table, arcs}
-use Rattle.table.specs.Checks.{refuse_if, outside, differ, bad_ends, sizes_of, arc_fault, or_else, first_fault, in_order, check_of, fine, Verdict}
+use Rattle.table.specs.Checks.{refuse_if, outside, differ, bad_ends, sizes_of, arc_fault, or_else, first_fault, in_order, check_of, no_refusal, Verdict}
 use Rattle.table.specs.Refusals.{number_of, refusal_in, place_in}
 use Rattle.table.specs.declared.Name.{Name}
 use Rattle.table.specs.declared.Name.TheVariants.{Nodes, Rows, Arcs, Ends, Room, Node, Loop, Capacity}
@@ -59,7 +59,7 @@ sizes_other n tails heads capacities s t e f =
     rw (eq-eqb tails heads e, eq-eqb tails capacities f)
     (unless (outside 2 512 n) Nodes 0 _ (λ h. omega arith)
     (unless (ltb 4096 tails) Arcs 0 _ (λ h. omega arith)
-    (unless (bad_ends n s t) Ends 0 fine (λ h. omega arith) (λ h. omega arith))))
+    (unless (bad_ends n s t) Ends 0 no_refusal (λ h. omega arith) (λ h. omega arith))))
 
 -- The first arc with a fault.
 faults_other : (n place : ℕ) (ts hs cs : List ℕ) → NotRows (first_fault n place ts hs cs)
@@ -71,7 +71,7 @@ faults_other n place (t ∷ ts) (h ∷ hs) (c ∷ cs) =
     either (arc_fault n place t h c) _
     (unless (outside 1 n t || outside 1 n h) Node place _ (λ e. omega arith)
     (unless (eqb t h) Loop place _ (λ e. omega arith)
-    (unless (ltb 1000000 c) Capacity place fine (λ e. omega arith) (λ e. omega arith))))
+    (unless (ltb 1000000 c) Capacity place no_refusal (λ e. omega arith) (λ e. omega arith))))
     (faults_other n (suc place) ts hs cs)
 
 -- The checks of rows of one length.

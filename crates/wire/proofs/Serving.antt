@@ -10,7 +10,7 @@ use lib.ListN.{length, take, drop}
 use Rattle.little.specs.Little.{bytes_of_all}
 use Rattle.table.specs.Table.{Table, arcs}
 use Rattle.table.specs.Accepted.{Accepted}
-use Rattle.table.specs.Checks.{is_fine, check_of, fine, refused, Verdict}
+use Rattle.table.specs.Checks.{is_fine, check_of, no_refusal, refused, Verdict}
 use Rattle.table.specs.Refusals.{number_of}
 use Rattle.table.specs.declared.Name.{Name}
 use Rattle.table.specs.declared.Name.TheVariants.{Room}
@@ -37,7 +37,7 @@ pub record Ready (t : Table) (flow side result : List ℕ) : Type 0 where
   pub for_result : 56 ≤ length result
 
 -- It may.
-pub ready : (t : Table) (flow side result : List ℕ) → serving_verdict t flow side result ≡ fine → Ready t flow side result
+pub ready : (t : Table) (flow side result : List ℕ) → serving_verdict t flow side result ≡ no_refusal → Ready t flow side result
 ready t flow side result fine =
     let (ok, room) = check_accepts t _ (ap is_fine fine) in
     let (a, b, c) = roomy _ t.nodes (arcs t) (length flow) (length side) (length result) room in
@@ -63,7 +63,7 @@ module _ (t : Table) (stamp : ℕ) (flow side result : List ℕ) where
   serves_sizes name place e f = serves_refusal name place (sizes_first t _ name place e) f
 
   -- and a result row shorter than 56 bytes is ROOM in its place.
-  pub short_is_room : sizes t ≡ fine → length result < 56 → serving t stamp flow side result ≡ served (returned_of 5 0) flow side result
+  pub short_is_room : sizes t ≡ no_refusal → length result < 56 → serving t stamp flow side result ≡ served (returned_of 5 0) flow side result
   short_is_room e short = sym (serves_refusal Room 0 (room_next t _ e (short_result 56 t.nodes (arcs t) (length flow) (length side) (length result) short)) refl)
 
   -- Only the answer, m flows and n marks count.
@@ -81,7 +81,7 @@ module _ (t : Table) (stamp : ℕ) (flow side result : List ℕ) where
       (solved_flows t ok flows ∙ sym (solved_flows t ok flows_too)) (solved_marks t ok marks ∙ sym (solved_marks t ok marks_too))
 
   -- so what was solved in rows of the call's own and written as bytes is the answer.
-  pub serves_solved : serving_verdict t flow side result ≡ fine → (flows marks work : List ℕ)
+  pub serves_solved : serving_verdict t flow side result ≡ no_refusal → (flows marks work : List ℕ)
       → {a : Answer} {f s w : List ℕ} → left a f s w ≡ solved t stamp flows marks work
       → {flow' side' result' : List ℕ} → flow' ≡ bytes_of_all 4 (take (arcs t) f) ++ drop (4 * arcs t) flow → side' ≡ take t.nodes s ++ drop t.nodes side
       → result' ≡ bytes_of_all 8 (seven a) ++ drop 56 result → served 0 flow' side' result' ≡ serving t stamp flow side result

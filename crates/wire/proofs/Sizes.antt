@@ -11,7 +11,7 @@ use Rattle.rows.specs.Row.{by_place}
 use Rattle.rows.proofs.Rows.{length_places}
 use Rattle.rows.proofs.Sums.{both_true}
 use Rattle.table.specs.Table.{Table, table_of}
-use Rattle.table.specs.Checks.{is_fine, outside, differ, sizes_of, or_else, in_order, check_of, fine, refused, Verdict}
+use Rattle.table.specs.Checks.{is_fine, outside, differ, sizes_of, or_else, in_order, check_of, no_refusal, refused, Verdict}
 use Rattle.table.specs.declared.Name.{Name}
 use Rattle.table.specs.declared.Name.TheVariants.{Rows, Room}
 use Rattle.table.proofs.Accepts.{sizes_fine}
@@ -26,7 +26,7 @@ pub record Sized (n tails heads capacities : ℕ) : Type 0 where
   pub heads_same : heads ≡ capacities
 
 -- Sizes that are not refused are within them.
-pub sized : (n tails heads capacities s t : ℕ) → sizes_of n tails heads capacities s t ≡ fine → Sized n tails heads capacities
+pub sized : (n tails heads capacities s t : ℕ) → sizes_of n tails heads capacities s t ≡ no_refusal → Sized n tails heads capacities
 sized n tails heads capacities s t e =
     let good = sizes_fine n tails heads capacities s t (ap is_fine e) in
     record {
@@ -46,7 +46,7 @@ unfolding in_order or_else
 sizes_first t room name place e = rw e
 
 -- ROOM comes next.
-pub room_next : (t : Table) (room : Bool) → sizes t ≡ fine → room ≡ false → check_of t room ≡ refused Room 0
+pub room_next : (t : Table) (room : Bool) → sizes t ≡ no_refusal → room ≡ false → check_of t room ≡ refused Room 0
 unfolding in_order or_else
 room_next t room e f = rw (e, f)
 

@@ -8,7 +8,7 @@ use borrow.Author.Tests.{eq-eqb, ne_eqb, le-leb}
 use lib.ListN.{length, take, drop, replicate, length-replicate}
 use Rattle.rows.proofs.Rows.{length_places, zeros_taken}
 use Rattle.table.specs.Table.{Table, arcs}
-use Rattle.table.specs.Checks.{or_else, check_of, fine, refused}
+use Rattle.table.specs.Checks.{or_else, check_of, no_refusal, refused}
 use Rattle.table.specs.Refusals.{number_of}
 use Rattle.table.specs.declared.Name.{Name}
 use Rattle.table.specs.declared.Name.TheVariants.{Room}
@@ -69,7 +69,7 @@ module _ (t : Table) (stamp answer : ℕ) (flow side : List ℕ) (place : ℕ) (
   tells_sizes name at e f = refuses name at (sizes_first t _ name at e) f
 
   -- and ROOM.
-  pub tells_no_room : sizes t ≡ fine → {m : ℕ} → m ≡ arcs t → {b : Bool} → b ≡ has_byte_room 24 t.nodes m (length flow) (length side) (length result) → b ≡ false
+  pub tells_no_room : sizes t ≡ no_refusal → {m : ℕ} → m ≡ arcs t → {b : Bool} → b ≡ has_byte_room 24 t.nodes m (length flow) (length side) (length result) → b ≡ false
       → {x : ℕ} → x ≡ returned_of (number_of Room) 0 → told x result ≡ telling t stamp answer flow side place result
   tells_no_room e same is none f =
       refuses Room 0 (room_next t _ e (ap (λ (m : ℕ). has_byte_room 24 t.nodes m (length flow) (length side) (length result)) (sym same) ∙ sym is ∙ none)) f

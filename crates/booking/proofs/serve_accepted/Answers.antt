@@ -2,14 +2,14 @@
 use Prim.Native.Nat.{ℕ}
 use native.Mathlib.Omega.{arith}
 use lib.ListN.{length-replicate}
-use Rattle.table.specs.Table.{Table, table_of}
+use Rattle.table.specs.Table.{Table, table_of, table_in}
 use Rattle.wire.proofs.Serving.{Ready, ready, serves_solved}
 use borrow.Author.Rules.{rules}
 use Rattle.booking.proofs.serve_accepted.Goals as goal
 
 pub solve_table-answer-requires : goal.solve_table-answer-requires
 solve_table-answer-requires c =
-    let table : Table = table_of c.args.n c.args.s c.args.t c.args.tails.now c.args.heads.now c.args.capacities.now in
+    let table : Table = table_in c.args.table.now in
     let good : Ready table c.args.flow.now c.args.side.now c.args.res.now = ready table c.args.flow.now c.args.side.now c.args.res.now c.requires in
     let nodes = good.few_nodes in
     let few = good.few_arcs in record {
@@ -19,27 +19,27 @@ solve_table-answer-requires c =
 
 pub write_flows-requires : goal.write_flows-requires
 write_flows-requires c =
-    let table : Table = table_of c.args.n c.args.s c.args.t c.args.tails.now c.args.heads.now c.args.capacities.now in
+    let table : Table = table_in c.args.table.now in
     let good : Ready table c.args.flow.now c.args.side.now c.args.res.now = ready table c.args.flow.now c.args.side.now c.args.res.now c.requires in
     let few = good.few_arcs in
     (few, search (rules, few), good.for_flow)
 
 pub write_marks-requires : goal.write_marks-requires
 write_marks-requires c =
-    let table : Table = table_of c.args.n c.args.s c.args.t c.args.tails.now c.args.heads.now c.args.capacities.now in
+    let table : Table = table_in c.args.table.now in
     let good : Ready table c.args.flow.now c.args.side.now c.args.res.now = ready table c.args.flow.now c.args.side.now c.args.res.now c.requires in
     let nodes = good.few_nodes in
     (search (rules, nodes), good.for_side)
 
 pub write_result-requires : goal.write_result-requires
 write_result-requires c =
-    let table : Table = table_of c.args.n c.args.s c.args.t c.args.tails.now c.args.heads.now c.args.capacities.now in
+    let table : Table = table_in c.args.table.now in
     let good : Ready table c.args.flow.now c.args.side.now c.args.res.now = ready table c.args.flow.now c.args.side.now c.args.res.now c.requires in
     good.for_result
 
 pub returns : goal.returns
 returns c =
-    let table : Table = table_of c.args.n c.args.s c.args.t c.args.tails.now c.args.heads.now c.args.capacities.now in
+    let table : Table = table_in c.args.table.now in
     let given = c.args in
     serves_solved table given.stamp given.flow.now given.side.now given.res.now c.requires _ _ _
     c.solve_table-answer.ensures c.write_flows.ensures c.write_marks.ensures c.write_result.ensures

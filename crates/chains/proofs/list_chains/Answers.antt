@@ -2,7 +2,7 @@
 use Rattle.chains.proofs.Showing.{refused_listing, fine_listing, fine_accepted, fine_roomy, listing_shows}
 use Rattle.chains.specs.Listing.{Shown, listing, Shows}
 use Rattle.verdicts.specs.Plain.{plain_verdict}
-use Rattle.minimums.specs.BoundedTable.{BoundedTable, bounded_of}
+use Rattle.minimums.specs.BoundedTable.{BoundedTable, bounded_of, bounded_in}
 use Rattle.minimums.specs.Checks.{plain_check}
 use lib.ListN.{length}
 use mathlib.Core.Path.{◌≡◌, ap, ◌∙◌}
@@ -10,7 +10,7 @@ use Rattle.chains.proofs.list_chains.Goals as goal
 
 pub list_table-requires : goal.list_table-requires
 list_table-requires c =
-    let bounded : BoundedTable = bounded_of c.args.n c.args.s c.args.t c.args.tails.now c.args.heads.now c.args.capacities.now c.args.minimums.now in
+    let bounded : BoundedTable = bounded_in c.args.bounded.now in
     let found : c.plain_check.result ≡ plain_verdict bounded (length c.args.flow.now) (length c.args.side.now) (length c.args.work.now) = c.plain_check.ensures ∙ ap (plain_check bounded) c.has_room-room.ensures in
     let given = c.args in
     let room = fine_roomy bounded given.stamp given.flow.now given.side.now given.work.now given.list.now _ found c.in-Ok.is in record {
@@ -20,7 +20,7 @@ list_table-requires c =
 
 pub returns-in-Err : goal.returns-in-Err
 returns-in-Err c =
-    let bounded : BoundedTable = bounded_of c.args.n c.args.s c.args.t c.args.tails.now c.args.heads.now c.args.capacities.now c.args.minimums.now in
+    let bounded : BoundedTable = bounded_in c.args.bounded.now in
     let found : c.plain_check.result ≡ plain_verdict bounded (length c.args.flow.now) (length c.args.side.now) (length c.args.work.now) = c.plain_check.ensures ∙ ap (plain_check bounded) c.has_room-room.ensures in
     let whole : (l : Shown) → l ≡ listing bounded c.args.stamp c.args.flow.now c.args.side.now c.args.work.now c.args.list.now → (l ≡ listing bounded c.args.stamp c.args.flow.now c.args.side.now c.args.work.now c.args.list.now) × (l.solving.answer.refusal ≡ 0 → Shows bounded.table l) = λ l e. (e, listing_shows bounded c.args.stamp c.args.flow.now c.args.side.now c.args.work.now c.args.list.now l e) in
     let given = c.args in
@@ -32,7 +32,7 @@ returns-in-Err c =
 
 pub returns-in-Ok : goal.returns-in-Ok
 returns-in-Ok c =
-    let bounded : BoundedTable = bounded_of c.args.n c.args.s c.args.t c.args.tails.now c.args.heads.now c.args.capacities.now c.args.minimums.now in
+    let bounded : BoundedTable = bounded_in c.args.bounded.now in
     let found : c.plain_check.result ≡ plain_verdict bounded (length c.args.flow.now) (length c.args.side.now) (length c.args.work.now) = c.plain_check.ensures ∙ ap (plain_check bounded) c.has_room-room.ensures in
     let whole : (l : Shown) → l ≡ listing bounded c.args.stamp c.args.flow.now c.args.side.now c.args.work.now c.args.list.now → (l ≡ listing bounded c.args.stamp c.args.flow.now c.args.side.now c.args.work.now c.args.list.now) × (l.solving.answer.refusal ≡ 0 → Shows bounded.table l) = λ l e. (e, listing_shows bounded c.args.stamp c.args.flow.now c.args.side.now c.args.work.now c.args.list.now l e) in
     let given = c.args in

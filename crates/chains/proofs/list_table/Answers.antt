@@ -1,6 +1,6 @@
 -- `list_table` meets its contract: handing over what was solved in rows of the call's own is listing the table.
 use Rattle.chains.proofs.Handing.{handed_listing}
-use Rattle.table.specs.Table.{table_of}
+use Rattle.table.specs.Table.{table_of, table_in}
 use native.Mathlib.Omega.{arith}
 use mathlib.Core.Path.{sym}
 use Rattle.chains.proofs.list_table.Goals as goal
@@ -21,5 +21,5 @@ list_solved-requires c =
 pub returns : goal.returns
 returns c =
     let given = c.args in
-    handed_listing (table_of given.n given.s given.t given.tails.now given.heads.now given.capacities.now) c.requires.accepted
+    handed_listing (table_in given.table.now) c.requires.accepted
     given.stamp given.flow.now given.side.now given.work.now given.list.now _ _ _ _ _ _ _ c.solve_table-answer.ensures _ (sym c.requires.accepted.rows.capacities_long) _ c.list_solved.ensures

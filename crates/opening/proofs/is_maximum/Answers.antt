@@ -1,5 +1,5 @@
 -- `is_maximum` meets its contract: a flow, then the sink's mark.
-use Rattle.table.specs.Table.{table_of}
+use Rattle.table.specs.Table.{table_of, table_in}
 use Rattle.opening.proofs.Leaves.{maximum_not, maximum_decides}
 use Rattle.opening.proofs.is_maximum.Goals as goal
 
@@ -12,7 +12,7 @@ is_flow-requires c = record {
 pub returns-then-not-is_flow : goal.returns-then-not-is_flow
 returns-then-not-is_flow c =
     let given = c.args in
-    maximum_not (table_of given.n given.s given.t given.tails.now given.heads.now given.capacities.now) given.flow.now c.is_flow.ensures c.if-not-is_flow.true
+    maximum_not (table_in given.table.now) given.flow.now c.is_flow.ensures c.if-not-is_flow.true
 
 pub is_sink_reached-requires : goal.is_sink_reached-requires
 is_sink_reached-requires c = record {
@@ -24,4 +24,4 @@ is_sink_reached-requires c = record {
 pub returns : goal.returns
 returns c =
     let given = c.args in
-    maximum_decides (table_of given.n given.s given.t given.tails.now given.heads.now given.capacities.now) given.flow.now c.is_flow.ensures c.if-not-is_flow.false c.is_sink_reached.ensures
+    maximum_decides (table_in given.table.now) given.flow.now c.is_flow.ensures c.if-not-is_flow.false c.is_sink_reached.ensures

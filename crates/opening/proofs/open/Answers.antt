@@ -1,6 +1,6 @@
 -- `open` meets its contract: the old table's own refusals, then what becomes of an accepted one. The rest of the promise follows from the equation.
 use Rattle.std.proofs.Common.{◌≡◌, length, ap, ◌∙◌}
-use Rattle.minimums.specs.BoundedTable.{BoundedTable, bounded_of}
+use Rattle.minimums.specs.BoundedTable.{BoundedTable, bounded_of, bounded_in}
 use Rattle.minimums.specs.Checks.{plain_check}
 use Rattle.solver.specs.Solving.{left, has_room}
 use Rattle.opening.specs.Maximum.{MaximumFlow}
@@ -10,8 +10,8 @@ use Rattle.opening.proofs.open.Goals as goal
 
 pub open_accepted-requires : goal.open_accepted-requires
 open_accepted-requires c =
-    let table : BoundedTable = bounded_of c.args.n c.args.s c.args.t c.args.tails.now c.args.heads.now c.args.capacities.now c.args.minimums.now in
-    let found : c.plain_check.result ≡ plain_check table (has_room c.args.n (length c.args.capacities.now) (length c.args.flow.now) (length c.args.side.now) (length c.args.work.now)) = c.plain_check.ensures ∙ ap (plain_check table) c.has_room-room.ensures in
+    let table : BoundedTable = bounded_in c.args.bounded.now in
+    let found : c.plain_check.result ≡ plain_check table (has_room c.args.bounded.now.table.nodes (length c.args.bounded.now.table.capacities.now) (length c.args.flow.now) (length c.args.side.now) (length c.args.work.now)) = c.plain_check.ensures ∙ ap (plain_check table) c.has_room-room.ensures in
     let given = c.args in
     let (ok, roomy) = own_accepts table given.stamp given.place given.capacity given.flow.now given.side.now given.work.now _ found c.in-Ok.is in record {
       accepted = ok;
@@ -20,8 +20,8 @@ open_accepted-requires c =
 
 pub returns-in-Err : goal.returns-in-Err
 returns-in-Err c =
-    let table : BoundedTable = bounded_of c.args.n c.args.s c.args.t c.args.tails.now c.args.heads.now c.args.capacities.now c.args.minimums.now in
-    let found : c.plain_check.result ≡ plain_check table (has_room c.args.n (length c.args.capacities.now) (length c.args.flow.now) (length c.args.side.now) (length c.args.work.now)) =
+    let table : BoundedTable = bounded_in c.args.bounded.now in
+    let found : c.plain_check.result ≡ plain_check table (has_room c.args.bounded.now.table.nodes (length c.args.bounded.now.table.capacities.now) (length c.args.flow.now) (length c.args.side.now) (length c.args.work.now)) =
     c.plain_check.ensures ∙ ap (plain_check table) c.has_room-room.ensures in
     let given = c.args in
     let exact : left c.refused.result given.flow.now given.side.now given.work.now ≡ opening table given.stamp given.place given.capacity given.flow.now given.side.now given.work.now =
@@ -33,8 +33,8 @@ returns-in-Err c =
 
 pub returns-in-Ok : goal.returns-in-Ok
 returns-in-Ok c =
-    let table : BoundedTable = bounded_of c.args.n c.args.s c.args.t c.args.tails.now c.args.heads.now c.args.capacities.now c.args.minimums.now in
-    let found : c.plain_check.result ≡ plain_check table (has_room c.args.n (length c.args.capacities.now) (length c.args.flow.now) (length c.args.side.now) (length c.args.work.now)) =
+    let table : BoundedTable = bounded_in c.args.bounded.now in
+    let found : c.plain_check.result ≡ plain_check table (has_room c.args.bounded.now.table.nodes (length c.args.bounded.now.table.capacities.now) (length c.args.flow.now) (length c.args.side.now) (length c.args.work.now)) =
     c.plain_check.ensures ∙ ap (plain_check table) c.has_room-room.ensures in
     let given = c.args in
     let exact : left c.open_accepted.result c.open_accepted.new.flow c.open_accepted.new.side c.open_accepted.new.work ≡ opening table given.stamp given.place given.capacity given.flow.now given.side.now given.work.now =

@@ -22,4 +22,4 @@ pub returns : goal.returns
 returns c =
     let given = c.args in
     c.go_on_rows.ensures
-    ∙ ap (λ (row : List ℕ). went_on (table_of given.n given.s given.t given.tails.now given.heads.now row) given.stamp given.flow.now given.side.now given.work.now) c.open_capacity.ensures
+    ∙ ap (λ (row : List ℕ). went_on (table_of given.bounded.now.table.nodes given.bounded.now.table.source given.bounded.now.table.sink given.bounded.now.table.tails.now given.bounded.now.table.heads.now row) given.stamp given.flow.now given.side.now given.work.now) c.open_capacity.ensures

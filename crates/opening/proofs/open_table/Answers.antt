@@ -1,28 +1,28 @@
 -- `open_table` meets its contract: the first m places of the rows are lent.
 use Rattle.std.proofs.Common.{◌≤◌, length, sym, arith, length-take-le}
-use Rattle.table.specs.Table.{table_of}
+use Rattle.table.specs.Table.{table_of, table_in}
 use Rattle.rows.proofs.Rows.{zeros_taken}
 use Rattle.opening.proofs.Reopening.{opens_part, went_opened}
 use Rattle.opening.proofs.open_table.Goals as goal
 
 pub slice_bounds-new-end : goal.slice_bounds-new-end
 slice_bounds-new-end c =
-    let few : length c.args.capacities.now ≤ 4096 = omega (arith, c.requires.opens.accepted.rows.ends.few_arcs, c.requires.opens.accepted.rows.capacities_long) in
+    let few : length c.args.table.now.capacities.now ≤ 4096 = omega (arith, c.requires.opens.accepted.rows.ends.few_arcs, c.requires.opens.accepted.rows.capacities_long) in
     few
 
 pub slice_bounds-open_rows-end : goal.slice_bounds-open_rows-end
 slice_bounds-open_rows-end c =
-    let few : length c.args.capacities.now ≤ 4096 = omega (arith, c.requires.opens.accepted.rows.ends.few_arcs, c.requires.opens.accepted.rows.capacities_long) in
+    let few : length c.args.table.now.capacities.now ≤ 4096 = omega (arith, c.requires.opens.accepted.rows.ends.few_arcs, c.requires.opens.accepted.rows.capacities_long) in
     sym (length-take-le _ _ few)
 
 pub slice_bounds-minimums-end : goal.slice_bounds-minimums-end
 slice_bounds-minimums-end c =
-    let few : length c.args.capacities.now ≤ 4096 = omega (arith, c.requires.opens.accepted.rows.ends.few_arcs, c.requires.opens.accepted.rows.capacities_long) in
+    let few : length c.args.table.now.capacities.now ≤ 4096 = omega (arith, c.requires.opens.accepted.rows.ends.few_arcs, c.requires.opens.accepted.rows.capacities_long) in
     few
 
 pub slice_bounds-open_rows-end-2 : goal.slice_bounds-open_rows-end-2
 slice_bounds-open_rows-end-2 c =
-    let few : length c.args.capacities.now ≤ 4096 = omega (arith, c.requires.opens.accepted.rows.ends.few_arcs, c.requires.opens.accepted.rows.capacities_long) in
+    let few : length c.args.table.now.capacities.now ≤ 4096 = omega (arith, c.requires.opens.accepted.rows.ends.few_arcs, c.requires.opens.accepted.rows.capacities_long) in
     sym (length-take-le _ _ few)
 
 pub slice_bounds-open_rows-end-3 : goal.slice_bounds-open_rows-end-3
@@ -33,7 +33,7 @@ slice_bounds-open_rows-end-4 c = sym (length-take-le _ _ c.requires.opens.for_fl
 
 pub open_rows-requires : goal.open_rows-requires
 open_rows-requires c =
-    let few : length c.args.capacities.now ≤ 4096 = omega (arith, c.requires.opens.accepted.rows.ends.few_arcs, c.requires.opens.accepted.rows.capacities_long) in
+    let few : length c.args.table.now.capacities.now ≤ 4096 = omega (arith, c.requires.opens.accepted.rows.ends.few_arcs, c.requires.opens.accepted.rows.capacities_long) in
     record {
       opens = opens_part c.requires.opens;
       by_index = c.requires.by_index;
@@ -43,4 +43,4 @@ open_rows-requires c =
 pub returns : goal.returns
 returns c =
     let given = c.args in
-    went_opened (table_of given.n given.s given.t given.tails.now given.heads.now given.capacities.now) given.place given.capacity c.requires.opens given.stamp given.flow.now given.side.now given.work.now c.open_rows.result _ _ _ c.requires.opens.for_flow c.open_rows.ensures
+    went_opened (table_in given.table.now) given.place given.capacity c.requires.opens given.stamp given.flow.now given.side.now given.work.now c.open_rows.result _ _ _ c.requires.opens.for_flow c.open_rows.ensures

@@ -3,13 +3,13 @@ use Prim.Native.Nat.{ℕ, ◌≤◌}
 use mathlib.Core.Path.{◌≡◌, sym, ap, ◌∙◌}
 use native.Mathlib.Omega.{arith}
 use lib.ListN.{length, take, length-replicate}
-use Rattle.table.specs.Table.{Table, table_of}
+use Rattle.table.specs.Table.{Table, table_of, table_in}
 use Rattle.openings.proofs.Handing.{handed_finding}
 use Rattle.openings.proofs.find_accepted.Goals as goal
 
 pub solve_sides-answer-requires : goal.solve_sides-answer-requires
 solve_sides-answer-requires c =
-    let few : (length c.args.capacities.now ≤ 4096) × (c.args.n ≤ 512) × (length c.args.tails.now ≡ length c.args.capacities.now) = let rows = c.requires.accepted.rows in (omega (arith, rows.ends.few_arcs, rows.capacities_long), rows.ends.few_nodes, sym rows.capacities_long) in
+    let few : (length c.args.table.now.capacities.now ≤ 4096) × (c.args.table.now.nodes ≤ 512) × (length c.args.table.now.tails.now ≡ length c.args.table.now.capacities.now) = let rows = c.requires.accepted.rows in (omega (arith, rows.ends.few_arcs, rows.capacities_long), rows.ends.few_nodes, sym rows.capacities_long) in
     let (arcs, nodes, _) = few in record {
       accepted = c.requires.accepted;
       capacities_in_bounds = (omega (arith, length-replicate {A = ℕ} 4096 0), omega (arith, length-replicate {A = ℕ} 512 0), omega (arith, length-replicate {A = ℕ} 512 0), omega (arith, length-replicate {A = ℕ} 10241 0));
@@ -17,7 +17,7 @@ solve_sides-answer-requires c =
 
 pub hand_lists-requires : goal.hand_lists-requires
 hand_lists-requires c =
-    let few : (length c.args.capacities.now ≤ 4096) × (c.args.n ≤ 512) × (length c.args.tails.now ≡ length c.args.capacities.now) = let rows = c.requires.accepted.rows in (omega (arith, rows.ends.few_arcs, rows.capacities_long), rows.ends.few_nodes, sym rows.capacities_long) in
+    let few : (length c.args.table.now.capacities.now ≤ 4096) × (c.args.table.now.nodes ≤ 512) × (length c.args.table.now.tails.now ≡ length c.args.table.now.capacities.now) = let rows = c.requires.accepted.rows in (omega (arith, rows.ends.few_arcs, rows.capacities_long), rows.ends.few_nodes, sym rows.capacities_long) in
     let (arcs, nodes, long) = few in record {
       arc_ends = (
         c.requires.accepted.rows.ends,
@@ -30,8 +30,8 @@ hand_lists-requires c =
 
 pub returns : goal.returns
 returns c =
-    let table : Table = table_of c.args.n c.args.s c.args.t c.args.tails.now c.args.heads.now c.args.capacities.now in
-    let few : (length c.args.capacities.now ≤ 4096) × (c.args.n ≤ 512) × (length c.args.tails.now ≡ length c.args.capacities.now) = let rows = c.requires.accepted.rows in (omega (arith, rows.ends.few_arcs, rows.capacities_long), rows.ends.few_nodes, sym rows.capacities_long) in
+    let table : Table = table_in c.args.table.now in
+    let few : (length c.args.table.now.capacities.now ≤ 4096) × (c.args.table.now.nodes ≤ 512) × (length c.args.table.now.tails.now ≡ length c.args.table.now.capacities.now) = let rows = c.requires.accepted.rows in (omega (arith, rows.ends.few_arcs, rows.capacities_long), rows.ends.few_nodes, sym rows.capacities_long) in
     let given = c.args in
     let found = c.solve_sides-answer.new.flow in
     c.hand_lists.ensures

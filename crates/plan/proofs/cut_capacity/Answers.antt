@@ -26,14 +26,14 @@ crossing-total-requires c =
 pub overflow_add-total : goal.overflow_add-total
 overflow_add-total c =
     let a = c.args in
-    omega (arith, c.crossing-total.ensures, only_le (marked a.side.now (at_place a.tails.now c.loop-place.place) && not (marked a.side.now (at_place a.heads.now c.loop-place.place))) (at_place a.capacities.now c.loop-place.place), c.requires.0.small c.loop-place.place c.loop-place-test.true, c.requires.0.capacities_long, c.requires.0.ends.few_arcs)
+    omega (arith, c.crossing-total.ensures, only_le (marked a.side.now (at_place a.table.now.tails.now c.loop-place.place) && not (marked a.side.now (at_place a.table.now.heads.now c.loop-place.place))) (at_place a.table.now.capacities.now c.loop-place.place), c.requires.0.small c.loop-place.place c.loop-place-test.true, c.requires.0.capacities_long, c.requires.0.ends.few_arcs)
 
 pub loop-place-preserved : goal.loop-place-preserved
 unfolding sum
 loop-place-preserved c =
     let a = c.args in (
       omega arith,
-      omega (arith, c.crossing-total.ensures, only_le (marked a.side.now (at_place a.tails.now c.loop-place.place) && not (marked a.side.now (at_place a.heads.now c.loop-place.place))) (at_place a.capacities.now c.loop-place.place), c.requires.0.small c.loop-place.place c.loop-place-test.true),
+      omega (arith, c.crossing-total.ensures, only_le (marked a.side.now (at_place a.table.now.tails.now c.loop-place.place) && not (marked a.side.now (at_place a.table.now.heads.now c.loop-place.place))) (at_place a.table.now.capacities.now c.loop-place.place), c.requires.0.small c.loop-place.place c.loop-place-test.true),
       rw add-one (omega (arith, c.loop-place.invariant.2, c.crossing-total.ensures)),
     )
 
@@ -41,5 +41,5 @@ pub returns : goal.returns
 unfolding leaving
 returns c =
     let a = c.args in
-    let all : c.loop-place.place ≡ length a.capacities.now = omega arith in
-    c.loop-place.invariant.2 ∙ ap (λ (k : ℕ). sum k (λ j. only (marked a.side.now (at_place a.tails.now j) && not (marked a.side.now (at_place a.heads.now j))) (at_place a.capacities.now j))) all
+    let all : c.loop-place.place ≡ length a.table.now.capacities.now = omega arith in
+    c.loop-place.invariant.2 ∙ ap (λ (k : ℕ). sum k (λ j. only (marked a.side.now (at_place a.table.now.tails.now j) && not (marked a.side.now (at_place a.table.now.heads.now j))) (at_place a.table.now.capacities.now j))) all

@@ -1,7 +1,7 @@
 -- `sums_fit` meets its contract: the rows hold what the text gives, and the tests decide.
 use native.Mathlib.Omega.{arith}
 use Rattle.scan.specs.Parts.{lines}
-use Rattle.table.specs.Table.{Table, table_of}
+use Rattle.table.specs.Table.{Table, table_of, table_in}
 use Rattle.amounts.specs.Lines.{amounts_of}
 use Rattle.plan.proofs.Deciding.{zeros_length, zeros_row, sums_above, sums_uneven, sums_decide}
 use Rattle.plan.proofs.sums_fit.Goals as goal
@@ -14,13 +14,13 @@ take_text-requires c = record {
 
 pub returns-then-not-take_text : goal.returns-then-not-take_text
 returns-then-not-take_text c =
-    let table : Table = let a = c.args in table_of a.n a.s a.t a.tails.now a.heads.now a.capacities.now in
+    let table : Table = let a = c.args in table_in a.table.now in
     let a = c.args in
     sums_above table a.value (amounts_of (lines a.text.now)) c.take_text.new.out c.take_text.new.into c.take_text.ensures.outs c.take_text.ensures.intos c.take_text.result c.take_text.ensures.pairs c.if-not-take_text.true
 
 pub returns-then-not-is_kept : goal.returns-then-not-is_kept
 returns-then-not-is_kept c =
-    let table : Table = let a = c.args in table_of a.n a.s a.t a.tails.now a.heads.now a.capacities.now in
+    let table : Table = let a = c.args in table_in a.table.now in
     let a = c.args in
     sums_uneven table a.value (amounts_of (lines a.text.now)) c.take_text.new.out c.take_text.new.into c.take_text.ensures.outs c.take_text.ensures.intos c.is_kept.result c.is_kept.ensures c.if-not-is_kept.true
 
@@ -41,6 +41,6 @@ bounds-into-at c = omega (arith, c.requires.0.source, c.requires.0.rows.ends.few
 
 pub returns : goal.returns
 returns c =
-    let table : Table = let a = c.args in table_of a.n a.s a.t a.tails.now a.heads.now a.capacities.now in
+    let table : Table = let a = c.args in table_in a.table.now in
     let a = c.args in
     sums_decide table a.value (amounts_of (lines a.text.now)) c.take_text.new.out c.take_text.new.into c.take_text.ensures.outs c.take_text.ensures.intos c.requires.0.source c.take_text.result c.take_text.ensures.pairs c.if-not-take_text.false c.is_kept.result c.is_kept.ensures c.if-not-is_kept.false c.is_net.result c.is_net.ensures

@@ -16,4 +16,4 @@ crossing-requires c =
 pub returns : goal.returns
 returns c =
     let given = c.args in
-    ap (λ (x : ℕ). reading_with 0 0 (at_place given.flow.now given.place) (at_place given.capacities.now given.place) x) c.crossing.ensures
+    ap (λ (x : ℕ). reading_with 0 0 (at_place given.flow.now given.place) (at_place given.table.now.capacities.now given.place) x) c.crossing.ensures

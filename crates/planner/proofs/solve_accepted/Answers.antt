@@ -1,9 +1,9 @@
 -- `solve_accepted` meets its contract: document 01's solving with its value signed, or solving with minimums.
 use Prim.Native.Nat.{◌≤◌}
 use mathlib.Core.Path.{sym, subst}
-use Rattle.table.specs.Table.{table_of}
+use Rattle.table.specs.Table.{table_of, table_in}
 use Rattle.solver.specs.Solving.{Left}
-use Rattle.minimums.specs.BoundedTable.{bounded_of}
+use Rattle.minimums.specs.BoundedTable.{bounded_of, bounded_in}
 use Rattle.feasible.proofs.Accepting.{table_accepted}
 use Rattle.planner.proofs.Answers.{solved_value, fine_plain, fine_bounded, signed_same}
 use Rattle.planner.proofs.solve_accepted.Goals as goal
@@ -17,12 +17,12 @@ solve_table-requires c = record {
 pub with_sign-requires : goal.with_sign-requires
 with_sign-requires c =
     subst (λ (l : Left). l.answer.value ≤ 4096000000) (sym c.solve_table.ensures)
-    (solved_value (table_of c.args.n c.args.s c.args.t c.args.tails.now c.args.heads.now c.args.capacities.now) (table_accepted _ c.requires.solvable.accepted) c.args.stamp c.args.flow.now c.args.side.now c.args.work.now)
+    (solved_value (table_in c.args.bounded.now.table) (table_accepted _ c.requires.solvable.accepted) c.args.stamp c.args.flow.now c.args.side.now c.args.work.now)
 
 pub returns-then-is_all_zero : goal.returns-then-is_all_zero
 returns-then-is_all_zero c =
-    fine_plain (bounded_of c.args.n c.args.s c.args.t c.args.tails.now c.args.heads.now c.args.capacities.now c.args.minimums.now) c.args.stamp c.args.flow.now c.args.side.now c.args.work.now _ c.if-is_all_zero.true c.is_all_zero.ensures (signed_same c.with_sign.ensures c.solve_table.ensures)
+    fine_plain (bounded_in c.args.bounded.now) c.args.stamp c.args.flow.now c.args.side.now c.args.work.now _ c.if-is_all_zero.true c.is_all_zero.ensures (signed_same c.with_sign.ensures c.solve_table.ensures)
 
 pub returns : goal.returns
 returns c =
-    fine_bounded (bounded_of c.args.n c.args.s c.args.t c.args.tails.now c.args.heads.now c.args.capacities.now c.args.minimums.now) c.args.stamp c.args.flow.now c.args.side.now c.args.work.now _ c.if-is_all_zero.false c.is_all_zero.ensures c.solve_some.ensures
+    fine_bounded (bounded_in c.args.bounded.now) c.args.stamp c.args.flow.now c.args.side.now c.args.work.now _ c.if-is_all_zero.false c.is_all_zero.ensures c.solve_some.ensures

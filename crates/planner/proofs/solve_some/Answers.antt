@@ -1,15 +1,15 @@
 -- `solve_some` meets its contract: no flow, or one of greatest value and a cleared work row.
 use mathlib.Core.Path.{ap, ◌∙◌}
 use Rattle.rows.specs.Row.{cleared}
-use Rattle.minimums.specs.BoundedTable.{bounded_of}
+use Rattle.minimums.specs.BoundedTable.{bounded_of, bounded_in}
 use Rattle.planner.proofs.Answers.{bounding_none, bounding_found}
 use Rattle.planner.proofs.solve_some.Goals as goal
 
 pub returns-in-Impossible : goal.returns-in-Impossible
 returns-in-Impossible c =
-    bounding_none (bounded_of c.args.n c.args.s c.args.t c.args.tails.now c.args.heads.now c.args.capacities.now c.args.minimums.now) c.args.stamp c.args.flow.now c.args.side.now c.args.work.now c.solve_bounded.ensures c.in-Impossible.is c.refused.ensures
+    bounding_none (bounded_in c.args.bounded.now) c.args.stamp c.args.flow.now c.args.side.now c.args.work.now c.solve_bounded.ensures c.in-Impossible.is c.refused.ensures
 
 pub returns-in-Value : goal.returns-in-Value
 returns-in-Value c =
-    bounding_found (bounded_of c.args.n c.args.s c.args.t c.args.tails.now c.args.heads.now c.args.capacities.now c.args.minimums.now) c.args.stamp c.args.flow.now c.args.side.now c.args.work.now c.solve_bounded.ensures c.in-Value.is c.signed_answer.ensures
+    bounding_found (bounded_in c.args.bounded.now) c.args.stamp c.args.flow.now c.args.side.now c.args.work.now c.solve_bounded.ensures c.in-Value.is c.signed_answer.ensures
     (c.clear.ensures ∙ ap (λ k. cleared k c.args.work.now) c.work_need.ensures)

@@ -5,7 +5,7 @@ use mathlib.Core.List.{List}
 use native.Mathlib.Omega.{arith}
 use lib.ListN.{length, take}
 use lib.Seq.{length-take-le}
-use Rattle.table.specs.Table.{table_of, Table}
+use Rattle.table.specs.Table.{table_of, Table, table_in}
 use Rattle.arcs.specs.Work.{InWork, ElseSame}
 use Rattle.arcs.proofs.Ends.{ends_wide}
 use Rattle.room.proofs.Halting.{cleared_is}
@@ -18,15 +18,15 @@ fill_work-requires c =
 
 pub slice_bounds-run_until-end-2 : goal.slice_bounds-run_until-end-2
 slice_bounds-run_until-end-2 c =
-    let part_long : length (take (length c.args.capacities.now) c.args.flow.now) ≡ length c.args.capacities.now = length-take-le _ _ c.requires.capacities_in_bounds.0 in
+    let part_long : length (take (length c.args.table.now.capacities.now) c.args.flow.now) ≡ length c.args.table.now.capacities.now = length-take-le _ _ c.requires.capacities_in_bounds.0 in
     sym part_long
 
 pub run_until-stop-requires : goal.run_until-stop-requires
 run_until-stop-requires c =
-    let table : Table = table_of c.args.n c.args.s c.args.t c.args.tails.now c.args.heads.now c.args.capacities.now in
+    let table : Table = table_in c.args.table.now in
     let filled : List ℕ = c.fill_work.new.work in
-    let in_work : InWork table filled = c.fill_work.ensures.listed c.args.s c.args.t c.args.capacities.now c.requires.accepted.rows.capacities_long in
-    let part_long : length (take (length c.args.capacities.now) c.args.flow.now) ≡ length c.args.capacities.now = length-take-le _ _ c.requires.capacities_in_bounds.0 in
+    let in_work : InWork table filled = c.fill_work.ensures.listed c.args.table.now.source c.args.table.now.sink c.args.table.now.capacities.now c.requires.accepted.rows.capacities_long in
+    let part_long : length (take (length c.args.table.now.capacities.now) c.args.flow.now) ≡ length c.args.table.now.capacities.now = length-take-le _ _ c.requires.capacities_in_bounds.0 in
     (c.requires.accepted, in_work, part_long)
 
 pub room_need-requires : goal.room_need-requires
@@ -49,6 +49,6 @@ returns c =
       scale_is = c.run_until-stop.ensures.scale_is;
       work_is =
           c.clear.ensures
-          ∙ cleared_is given.n (length given.capacities.now) _ c.room_need.ensures given.work.now filled c.run_until-stop.new.work
-          (subst (λ (k : ℕ). ElseSame given.n k given.work.now filled) (sym c.requires.accepted.rows.capacities_long) c.fill_work.ensures.same) c.run_until-stop.ensures.lists_stay;
+          ∙ cleared_is given.table.now.nodes (length given.table.now.capacities.now) _ c.room_need.ensures given.work.now filled c.run_until-stop.new.work
+          (subst (λ (k : ℕ). ElseSame given.table.now.nodes k given.work.now filled) (sym c.requires.accepted.rows.capacities_long) c.fill_work.ensures.same) c.run_until-stop.ensures.lists_stay;
     }

@@ -1,6 +1,6 @@
 -- `find_live` meets its contract: the lists serve both markings.
 use Rattle.std.proofs.Common.{length, arith}
-use Rattle.table.specs.Table.{Table, table_of}
+use Rattle.table.specs.Table.{Table, table_of, table_in}
 use Rattle.arcs.specs.Work.{InWork}
 use Rattle.arcs.proofs.Ends.{ends_wide}
 use Rattle.arcs.proofs.Work.{in_work_turned}
@@ -15,32 +15,32 @@ fill_work-requires c =
 
 pub mark-requires : goal.mark-requires
 mark-requires c =
-    let table : Table = table_of c.args.n c.args.s c.args.t c.args.tails.now c.args.heads.now c.args.capacities.now in
-    let in_work : InWork table c.fill_work.new.work = c.fill_work.ensures.listed c.args.s c.args.t c.args.capacities.now c.requires.accepted.0.rows.capacities_long in
+    let table : Table = table_in c.args.table.now in
+    let in_work : InWork table c.fill_work.new.work = c.fill_work.ensures.listed c.args.table.now.source c.args.table.now.sink c.args.table.now.capacities.now c.requires.accepted.0.rows.capacities_long in
     record {
       arc_rows = (c.requires.accepted.0.rows, c.requires.capacities_in_bounds.0, c.requires.accepted.0.source);
-      by_index = (c.args.s, c.args.t, in_work);
+      by_index = (c.args.table.now.source, c.args.table.now.sink, in_work);
       n_in_bounds = c.requires.capacities_in_bounds.2;
     }
 
 pub mark-requires-2 : goal.mark-requires-2
 mark-requires-2 c =
-    let table : Table = table_of c.args.n c.args.s c.args.t c.args.tails.now c.args.heads.now c.args.capacities.now in
-    let in_work : InWork table c.fill_work.new.work = c.fill_work.ensures.listed c.args.s c.args.t c.args.capacities.now c.requires.accepted.0.rows.capacities_long in
+    let table : Table = table_in c.args.table.now in
+    let in_work : InWork table c.fill_work.new.work = c.fill_work.ensures.listed c.args.table.now.source c.args.table.now.sink c.args.table.now.capacities.now c.requires.accepted.0.rows.capacities_long in
     record {
       arc_rows = (rows_turned c.requires.accepted.0.rows, c.requires.capacities_in_bounds.0, c.requires.accepted.0.sink);
-      by_index = (c.args.t, c.args.s, in_work_turned in_work c.args.t c.args.s);
+      by_index = (c.args.table.now.sink, c.args.table.now.source, in_work_turned in_work c.args.table.now.sink c.args.table.now.source);
       n_in_bounds = c.requires.capacities_in_bounds.3;
     }
 
 pub returns : goal.returns
 returns c =
-    let table : Table = table_of c.args.n c.args.s c.args.t c.args.tails.now c.args.heads.now c.args.capacities.now in
-    let in_work : InWork table c.fill_work.new.work = c.fill_work.ensures.listed c.args.s c.args.t c.args.capacities.now c.requires.accepted.0.rows.capacities_long in
+    let table : Table = table_in c.args.table.now in
+    let in_work : InWork table c.fill_work.new.work = c.fill_work.ensures.listed c.args.table.now.source c.args.table.now.sink c.args.table.now.capacities.now c.requires.accepted.0.rows.capacities_long in
     let given = c.args in record {
       in_work = in_work;
       fact = (
-        live_ahead table c.requires.accepted.0 given.none.now (length given.none.now) c.requires.accepted.1 given.ahead.now _ (c.mark.ensures given.t),
-        live_behind table c.requires.accepted.0 given.none.now (length given.none.now) c.requires.accepted.1 given.behind.now _ (c.mark-2.ensures given.s),
+        live_ahead table c.requires.accepted.0 given.none.now (length given.none.now) c.requires.accepted.1 given.ahead.now _ (c.mark.ensures given.table.now.sink),
+        live_behind table c.requires.accepted.0 given.none.now (length given.none.now) c.requires.accepted.1 given.behind.now _ (c.mark-2.ensures given.table.now.source),
       );
     }

@@ -9,9 +9,9 @@ use Rattle.smaller.proofs.put_all_back.Goals as goal
 
 pub put_back-requires : goal.put_back-requires
 put_back-requires c =
-    let longs : (length c.args.tails.now ≡ length c.args.capacities.now) × (length c.args.flow.now ≡ length c.args.tails.now) = let long = c.requires.fact.0.rows.capacities_long in (sym long, c.requires.ahead_len.3 ∙ long) in
+    let longs : (length c.args.table.now.tails.now ≡ length c.args.table.now.capacities.now) × (length c.args.flow.now ≡ length c.args.table.now.tails.now) = let long = c.requires.fact.0.rows.capacities_long in (sym long, c.requires.ahead_len.3 ∙ long) in
     let ends = c.requires.fact.0.rows.ends in (
-      subst⁻¹ (λ n. ArcEnds n c.args.tails.now c.args.heads.now) c.requires.ahead_len.0 ends,
+      subst⁻¹ (λ n. ArcEnds n c.args.table.now.tails.now c.args.table.now.heads.now) c.requires.ahead_len.0 ends,
       omega (arith, c.requires.ahead_len.0, c.requires.ahead_len.1),
       sym longs.0,
       omega (arith, longs.1),
@@ -21,7 +21,7 @@ put_back-requires c =
 pub mark-requires : goal.mark-requires
 mark-requires c = record {
   arc_rows = (c.requires.fact.0.rows, omega (arith, c.put_back.auto.flow, c.requires.ahead_len.3), c.requires.fact.0.source);
-  by_index = (c.args.s, c.args.t, c.requires.fact.1);
+  by_index = (c.args.table.now.source, c.args.table.now.sink, c.requires.fact.1);
   n_in_bounds = c.requires.ahead_len.4;
 }
 
@@ -34,12 +34,12 @@ clear-requires c = omega (arith, c.work_need.ensures, c.requires.ahead_len.5)
 
 pub returns : goal.returns
 returns c =
-    let longs : (length c.args.tails.now ≡ length c.args.capacities.now) × (length c.args.flow.now ≡ length c.args.tails.now) = let long = c.requires.fact.0.rows.capacities_long in (sym long, c.requires.ahead_len.3 ∙ long) in
-    let back : ℕ → ℕ = let args = c.args in back_by (arc_by args.ahead.now args.behind.now args.tails.now args.heads.now args.capacities.now) args.flows.now in
+    let longs : (length c.args.table.now.tails.now ≡ length c.args.table.now.capacities.now) × (length c.args.flow.now ≡ length c.args.table.now.tails.now) = let long = c.requires.fact.0.rows.capacities_long in (sym long, c.requires.ahead_len.3 ∙ long) in
+    let back : ℕ → ℕ = let args = c.args in back_by (arc_by args.ahead.now args.behind.now args.table.now.tails.now args.table.now.heads.now args.table.now.capacities.now) args.flows.now in
     let flow : List ℕ = c.put_back.new.flow in
-    let flow_is : flow ≡ by_place back (length c.args.capacities.now) = c.put_back.ensures ∙ fill_all back (length c.args.tails.now) c.args.flow.now (omega (arith, longs.1)) ∙ ap (by_place back) longs.0 in
+    let flow_is : flow ≡ by_place back (length c.args.table.now.capacities.now) = c.put_back.ensures ∙ fill_all back (length c.args.table.now.tails.now) c.args.flow.now (omega (arith, longs.1)) ∙ ap (by_place back) longs.0 in
     record {
       flow_value = flow_is;
-      side_value = c.mark.ensures c.args.t;
+      side_value = c.mark.ensures c.args.table.now.sink;
       work_value = c.clear.ensures ∙ ap (λ (need : ℕ). cleared need c.args.work.now) c.work_need.ensures;
     }

@@ -1,6 +1,6 @@
 -- `reduce` meets its contract: the checks in their order, then the accepted table. The rest of the promise follows from the equation.
 use Rattle.std.proofs.Common.{◌≡◌, ◌&&◌, length, ap, ◌∙◌}
-use Rattle.minimums.specs.BoundedTable.{BoundedTable, bounded_of}
+use Rattle.minimums.specs.BoundedTable.{BoundedTable, bounded_of, bounded_in}
 use Rattle.minimums.specs.Checks.{plain_check}
 use Rattle.keeping.specs.SmallRows.{SmallRows, small_rows}
 use Rattle.smaller.specs.Reducing.{LeftReduced, has_small_room, reducing_verdict, reducing, Reduces}
@@ -9,7 +9,7 @@ use Rattle.smaller.proofs.reduce.Goals as goal
 
 pub reduce_accepted-requires : goal.reduce_accepted-requires
 reduce_accepted-requires c =
-    let bounded : BoundedTable = bounded_of c.args.n c.args.s c.args.t c.args.tails.now c.args.heads.now c.args.capacities.now c.args.minimums.now in
+    let bounded : BoundedTable = bounded_in c.args.bounded.now in
     let small : SmallRows = small_rows c.args.small_tails.now c.args.small_heads.now c.args.small_capacities.now c.args.nodes_from.now c.args.arcs_from.now in
     let checked : c.plain_check.result ≡ reducing_verdict bounded (length c.args.flow.now) (length c.args.side.now) (length c.args.work.now) small = c.plain_check.ensures ∙ ap (plain_check bounded) (c.has_small_room-room.ensures ∙ ap (λ room. room && has_small_room bounded.table.nodes (length bounded.table.capacities) (length small.tails) (length small.heads) (length small.capacities) (length small.nodes_from) (length small.arcs_from)) c.has_room-solving.ensures) in
     let given = c.args in
@@ -21,7 +21,7 @@ reduce_accepted-requires c =
 
 pub returns-in-Err : goal.returns-in-Err
 returns-in-Err c =
-    let bounded : BoundedTable = bounded_of c.args.n c.args.s c.args.t c.args.tails.now c.args.heads.now c.args.capacities.now c.args.minimums.now in
+    let bounded : BoundedTable = bounded_in c.args.bounded.now in
     let small : SmallRows = small_rows c.args.small_tails.now c.args.small_heads.now c.args.small_capacities.now c.args.nodes_from.now c.args.arcs_from.now in
     let checked : c.plain_check.result ≡ reducing_verdict bounded (length c.args.flow.now) (length c.args.side.now) (length c.args.work.now) small = c.plain_check.ensures ∙ ap (plain_check bounded) (c.has_small_room-room.ensures ∙ ap (λ room. room && has_small_room bounded.table.nodes (length bounded.table.capacities) (length small.tails) (length small.heads) (length small.capacities) (length small.nodes_from) (length small.arcs_from)) c.has_room-solving.ensures) in
     let answered : LeftReduced = reducing bounded c.args.stamp c.args.flow.now c.args.side.now c.args.work.now small in
@@ -35,7 +35,7 @@ returns-in-Err c =
 
 pub returns-in-Ok : goal.returns-in-Ok
 returns-in-Ok c =
-    let bounded : BoundedTable = bounded_of c.args.n c.args.s c.args.t c.args.tails.now c.args.heads.now c.args.capacities.now c.args.minimums.now in
+    let bounded : BoundedTable = bounded_in c.args.bounded.now in
     let small : SmallRows = small_rows c.args.small_tails.now c.args.small_heads.now c.args.small_capacities.now c.args.nodes_from.now c.args.arcs_from.now in
     let checked : c.plain_check.result ≡ reducing_verdict bounded (length c.args.flow.now) (length c.args.side.now) (length c.args.work.now) small = c.plain_check.ensures ∙ ap (plain_check bounded) (c.has_small_room-room.ensures ∙ ap (λ room. room && has_small_room bounded.table.nodes (length bounded.table.capacities) (length small.tails) (length small.heads) (length small.capacities) (length small.nodes_from) (length small.arcs_from)) c.has_room-solving.ensures) in
     let answered : LeftReduced = reducing bounded c.args.stamp c.args.flow.now c.args.side.now c.args.work.now small in

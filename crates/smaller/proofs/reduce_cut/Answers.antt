@@ -1,6 +1,6 @@
 -- `reduce_cut` meets its contract: the first places of the rows are lent to `reduce_marked`.
 use Rattle.std.proofs.Common.{sym, length-take-le}
-use Rattle.table.specs.Table.{table_of}
+use Rattle.table.specs.Table.{table_of, table_in}
 use Rattle.keeping.specs.SmallRows.{small_rows}
 use Rattle.smaller.proofs.Reducing.{reduced_longer}
 use Rattle.smaller.proofs.reduce_cut.Goals as goal
@@ -27,5 +27,5 @@ reduce_marked-requires c = record {
 pub returns : goal.returns
 returns c =
     let given = c.args in
-    reduced_longer (table_of given.n given.s given.t given.tails.now given.heads.now given.capacities.now) given.stamp given.flow.now given.side.now given.work.now
+    reduced_longer (table_in given.table.now) given.stamp given.flow.now given.side.now given.work.now
     (small_rows given.small_tails.now given.small_heads.now given.small_capacities.now given.nodes_from.now given.arcs_from.now) c.reduce_marked.result _ _ _ _ c.requires.n_in_bounds.6 c.reduce_marked.ensures

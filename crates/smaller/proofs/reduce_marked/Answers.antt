@@ -1,7 +1,7 @@
 -- `reduce_marked` meets its contract: the smaller table is written and solved, and its flow put back.
 use Rattle.std.proofs.Common.{◌≤◌, length, arith}
 use mathlib.Core.Path.{subst⁻¹}
-use Rattle.table.specs.Table.{Table, table_of}
+use Rattle.table.specs.Table.{Table, table_of, table_in}
 use Rattle.table.specs.Accepted.{Accepted, ArcEnds}
 use Rattle.listing.proofs.Listing.{passing_few, passing_fewer}
 use Rattle.shrinking.specs.Smaller.{keeps_node, keeps_arc}
@@ -14,7 +14,7 @@ pub write_small-sizes-requires : goal.write_small-sizes-requires
 write_small-sizes-requires c =
     let arcs = c.requires.fact.0.rows.capacities_long in record {
       arc_ends = (
-        subst⁻¹ (λ k. ArcEnds k c.args.tails.now c.args.heads.now) c.requires.ahead_len.0 c.requires.fact.0.rows.ends,
+        subst⁻¹ (λ k. ArcEnds k c.args.table.now.tails.now c.args.table.now.heads.now) c.requires.ahead_len.0 c.requires.fact.0.rows.ends,
         omega (arith, c.requires.ahead_len.0, c.requires.ahead_len.1),
         omega (arith, c.requires.ahead_len.0, c.requires.ahead_len.2),
         arcs,
@@ -26,11 +26,11 @@ write_small-sizes-requires c =
 pub solve_small-answer-requires : goal.solve_small-answer-requires
 solve_small-answer-requires c =
     let small : SmallRows = let args = c.args in small_rows args.small_tails.now args.small_heads.now args.small_capacities.now args.nodes_from.now args.arcs_from.now in
-    let table : Table = table_of c.args.n c.args.s c.args.t c.args.tails.now c.args.heads.now c.args.capacities.now in
+    let table : Table = table_in c.args.table.now in
     let accepted : Accepted table = c.requires.fact.0 in
     let is_made : Made table accepted c.args.ahead.now c.args.behind.now c.requires.fact.2 c.requires.fact.3 small c.write_small-sizes.result _ c.write_small-sizes.ensures = made table accepted c.args.ahead.now c.args.behind.now c.requires.fact.2 c.requires.fact.3 small c.write_small-sizes.result _ c.write_small-sizes.ensures in
-    let few_arcs : (c.write_small-sizes.result.arcs ≤ length c.args.capacities.now) × (length c.args.capacities.now ≤ 4096) = omega (arith, is_made.arcs_are, passing_few (keeps_arc table) (length c.args.capacities.now), accepted.rows.ends.few_arcs, accepted.rows.capacities_long) in
-    let few_nodes : c.write_small-sizes.result.nodes ≤ 512 = omega (arith, is_made.nodes_are, passing_fewer (keeps_node table) (zero_not table accepted) c.args.n, accepted.rows.ends.few_nodes) in
+    let few_arcs : (c.write_small-sizes.result.arcs ≤ length c.args.table.now.capacities.now) × (length c.args.table.now.capacities.now ≤ 4096) = omega (arith, is_made.arcs_are, passing_few (keeps_arc table) (length c.args.table.now.capacities.now), accepted.rows.ends.few_arcs, accepted.rows.capacities_long) in
+    let few_nodes : c.write_small-sizes.result.nodes ≤ 512 = omega (arith, is_made.nodes_are, passing_fewer (keeps_node table) (zero_not table accepted) c.args.table.now.nodes, accepted.rows.ends.few_nodes) in
     let arcs = few_arcs in
     let nodes = few_nodes in record {
       accepted = subst⁻¹ Accepted
@@ -49,10 +49,10 @@ solve_small-answer-requires c =
 pub put_all_back-requires : goal.put_all_back-requires
 put_all_back-requires c =
     let small : SmallRows = let args = c.args in small_rows args.small_tails.now args.small_heads.now args.small_capacities.now args.nodes_from.now args.arcs_from.now in
-    let table : Table = table_of c.args.n c.args.s c.args.t c.args.tails.now c.args.heads.now c.args.capacities.now in
+    let table : Table = table_in c.args.table.now in
     let accepted : Accepted table = c.requires.fact.0 in
     let is_made : Made table accepted c.args.ahead.now c.args.behind.now c.requires.fact.2 c.requires.fact.3 small c.write_small-sizes.result _ c.write_small-sizes.ensures = made table accepted c.args.ahead.now c.args.behind.now c.requires.fact.2 c.requires.fact.3 small c.write_small-sizes.result _ c.write_small-sizes.ensures in
-    let few_arcs : (c.write_small-sizes.result.arcs ≤ length c.args.capacities.now) × (length c.args.capacities.now ≤ 4096) = omega (arith, is_made.arcs_are, passing_few (keeps_arc table) (length c.args.capacities.now), accepted.rows.ends.few_arcs, accepted.rows.capacities_long) in
+    let few_arcs : (c.write_small-sizes.result.arcs ≤ length c.args.table.now.capacities.now) × (length c.args.table.now.capacities.now ≤ 4096) = omega (arith, is_made.arcs_are, passing_few (keeps_arc table) (length c.args.table.now.capacities.now), accepted.rows.ends.few_arcs, accepted.rows.capacities_long) in
     record {
       fact = (c.requires.fact.0, c.requires.fact.1);
       ahead_len = (c.requires.ahead_len.0, c.requires.ahead_len.1, omega (arith, few_arcs, c.requires.ahead_len.3, c.solve_small-answer.auto.flows), c.requires.ahead_len.6, c.requires.given_room_to_reduce.0, c.requires.given_room_to_reduce.1);
@@ -79,7 +79,7 @@ shape_of-arcs_from c = c.write_small-sizes.auto.arcs_from
 pub returns : goal.returns
 returns c =
     let small : SmallRows = let args = c.args in small_rows args.small_tails.now args.small_heads.now args.small_capacities.now args.nodes_from.now args.arcs_from.now in
-    let table : Table = table_of c.args.n c.args.s c.args.t c.args.tails.now c.args.heads.now c.args.capacities.now in
+    let table : Table = table_in c.args.table.now in
     let accepted : Accepted table = c.requires.fact.0 in
     let given = c.args in
     reduced_is table accepted given.ahead.now given.behind.now c.requires.fact.2 c.requires.fact.3 small c.write_small-sizes.result _ c.write_small-sizes.ensures

@@ -1,6 +1,6 @@
 -- `has_text_room` meets its contract: the flow row first, then the text's bytes.
 use native.Mathlib.Omega.{arith}
-use Rattle.table.specs.Table.{table_of}
+use Rattle.table.specs.Table.{table_of, table_in}
 use Rattle.wording.proofs.Lengths.{text_bytes}
 use Rattle.solution.proofs.Writing.{flow_short, flow_long}
 use Rattle.solution.proofs.has_text_room.Goals as goal
@@ -8,7 +8,7 @@ use Rattle.solution.proofs.has_text_room.Goals as goal
 pub returns-then-flow-capacities : goal.returns-then-flow-capacities
 returns-then-flow-capacities c =
     let a = c.args in
-    flow_short (table_of a.n a.s a.t a.tails.now a.heads.now a.capacities.now) a.value a.flow.now a.text c.if-flow-capacities.true
+    flow_short (table_in a.table.now) a.value a.flow.now a.text c.if-flow-capacities.true
 
 pub lines_length-requires : goal.lines_length-requires
 lines_length-requires c =
@@ -17,6 +17,6 @@ lines_length-requires c =
 pub returns : goal.returns
 returns c =
     let a = c.args in
-    let table = table_of a.n a.s a.t a.tails.now a.heads.now a.capacities.now in
+    let table = table_in a.table.now in
     flow_long table a.value a.flow.now a.text c.if-flow-capacities.false _
     (omega (arith, c.digit_count.ensures.0, c.lines_length.ensures.0, text_bytes table a.value a.flow.now))
