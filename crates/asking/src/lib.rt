@@ -1,9 +1,14 @@
 // Document 02, CR 7: the question whether a table has room for at least q, and its answer: definitions in specs/, what holds of them in proofs/.
 #![tactic(auto)]
 
+ghost use Rattle.std.specs.Prelude.{◌≡◌};
+ghost use Rattle.asking.specs.Asking.{refusal};
+
+use table::Refusal;
+
 // What the question returns: a refusal's number and place, or 0 with 1 for yes and 0 for no, and the results of the run that stopped.
 #[repr(C)]
-#[derive(Clone, Copy)]
+#[derive(Clone, Copy, Debug, PartialEq, Eq)]
 pub struct Room {
     pub refusal: u32,
     pub place: u32,
@@ -15,4 +20,24 @@ pub struct Room {
     pub saturating: u64,
     pub nonsaturating: u64,
     pub relabels: u64,
+}
+
+// The answer of a refusal: its number and place, other fields 0.
+impl From<Refusal> for Room {
+    ghost from_gives = { λ r answer. answer ≡ refusal r.name r.place };
+
+    fn from(refusal: Refusal) -> Room {
+        Room {
+            refusal: refusal.name.number(),
+            place: refusal.place,
+            stamp: 0,
+            yes: 0,
+            value: 0,
+            scale: 0,
+            phases: 0,
+            saturating: 0,
+            nonsaturating: 0,
+            relabels: 0,
+        }
+    }
 }

@@ -3,12 +3,13 @@
 
 ghost use Rattle.std.specs.Prelude.{◌≡◌, ◌≤◌, length};
 ghost use Rattle.rows.specs.Row.{Node};
-ghost use Rattle.solver.specs.Solving.{GivenRoom};
+ghost use Rattle.solver.specs.Solving.{refusal, GivenRoom};
 ghost use Rattle.table.specs.Table.{table_in};
 ghost use Rattle.table.specs.Accepted.{ArcEnds, Accepted};
 ghost use Rattle.minimums.specs.BoundedTable.{bounded_in};
 ghost use Rattle.chains.specs.Listing.{listing_checked, listing, Shows, handed_with, shown_by};
 
+use minimums::LentBounded;
 use solver::Answer;
 use table::{LentTable, Name, Refusal};
 
@@ -20,13 +21,21 @@ pub struct Listed {
     pub filled: u32,
 }
 
+// The answer of a refusal: its number and place, other fields 0.
+impl From<Refusal> for Listed {
+    ghost from_gives = { λ r answer. answer ≡ record { answer = refusal r.name r.place; filled = 0 } };
+
+    fn from(refusal: Refusal) -> Listed {
+        Listed {
+            answer: refusal.into(),
+            filled: 0,
+        }
+    }
+}
+
 // Hands over what was solved in rows of the call's own, with its list, where the list's row has room; else ROOM, and nothing is written.
 fn list_solved(
-    n: u32,
-    s: u32,
-    t: u32,
-    tails: &[u32],
-    heads: &[u32],
+    table: &LentTable,
     answer: Answer,
     flows: &[u32],
     marks: &[u8],
@@ -35,21 +44,35 @@ fn list_solved(
     work: &mut [u32],
     list: &mut [u32],
 ) -> Listed
-    requires arc_ends { ArcEnds n tails.now heads.now × Node n s × (length tails.now ≤ length flows.now) × (n ≤ length marks.now) }
-    requires given_room { GivenRoom n tails.now flow.old side.old work.old }
+    requires arc_ends { ArcEnds table.now.nodes table.now.tails.now table.now.heads.now × Node table.now.nodes table.now.source × (length table.now.tails.now ≤ length flows.now) × (table.now.nodes ≤ length marks.now) }
+    requires given_room { GivenRoom table.now.nodes table.now.tails.now flow.old side.old work.old }
     ensures { shown_by result flow.new side.new work.new list.new
-        ≡ handed_with answer n s t tails.now heads.now flows.now marks.now flow.old side.old work.old list.old }
+        ≡ handed_with answer table.now.nodes table.now.source table.now.sink table.now.tails.now table.now.heads.now flows.now marks.now flow.old side.old work.old list.old }
 {
     // The list is counted before anything is written: no piece fits a row of one number.
     let mut none = [0u32; 1];
-    if list.len() < walks::list_flow(n, s, t, tails, heads, flows, &mut none) {
-        return Listed {
-            answer: solver::refused(Name::Room, 0),
-            filled: 0,
-        };
+    let needed = walks::list_flow(
+        table.nodes,
+        table.source,
+        table.sink,
+        table.tails,
+        table.heads,
+        flows,
+        &mut none,
+    );
+    if list.len() < needed {
+        return Name::Room.at(0).into();
     }
-    solver::hand_over(n, tails.len(), flows, marks, flow, side, work);
-    let filled = walks::list_flow(n, s, t, tails, heads, flows, list);
+    solver::hand_over(table, flows, marks, flow, side, work);
+    let filled = walks::list_flow(
+        table.nodes,
+        table.source,
+        table.sink,
+        table.tails,
+        table.heads,
+        flows,
+        list,
+    );
     Listed {
         answer,
         filled: filled as u32,
@@ -74,20 +97,7 @@ fn list_table(
     let mut marks = [0u8; 512];
     let mut own = [0u32; 4 * 512 + 2 * 4096 + 1];
     let answer = solver::solve_table(table, stamp, &mut flows, &mut marks, &mut own);
-    list_solved(
-        table.nodes,
-        table.source,
-        table.sink,
-        table.tails,
-        table.heads,
-        answer,
-        &flows,
-        &marks,
-        flow,
-        side,
-        work,
-        list,
-    )
+    list_solved(table, answer, &flows, &marks, flow, side, work, list)
 }
 
 // Solves a table and lists its chains from source to sink, and its rings; or gives the first refusal, with nothing written.
@@ -105,10 +115,7 @@ pub fn list_chains(
 {
     let room = solver::has_room(&bounded.table, flow.len(), side.len(), work.len());
     match minimums::plain_check(bounded, room) {
-        Err(refusal) => Listed {
-            answer: solver::refused(name, place),
-            filled: 0,
-        },
+        Err(refusal) => refusal.into(),
         Ok(()) => list_table(&bounded.table, stamp, flow, side, work, list),
     }
 }

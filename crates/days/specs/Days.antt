@@ -1,6 +1,5 @@
 -- Document 02, CR 10: a month of day tables whose arcs are joined in shared rows, and what one day answers and leaves. Days are counted from 0 here.
 use Rattle.std.specs.Prelude.{ℕ, zero, suc, ◌+◌, ◌*◌, List, [], ◌∷◌, length, get_or}
-use Rattle.rows.specs.Lent.{LentRow, GivenRow, before}
 use Rattle.rows.specs.Row.{at_place, part}
 use Rattle.parts.specs.Placed.{placed}
 use Rattle.minimums.specs.BoundedTable.{BoundedTable, bounded_of}
@@ -8,6 +7,7 @@ use Rattle.solver.specs.declared.Answer.{Answer}
 use Rattle.solver.specs.Solving.{Left, left}
 use Rattle.tally.specs.declared.Tally.{Tally}
 use Rattle.tally.specs.Sums.{tallied}
+use Rattle.days.specs.declared.LentDays.{LentDays}
 use Rattle.verdicts.specs.Plain.{plain_solving}
 
 -- What the call is given: a row each of starts, n, s, t and stamps by day, and the arcs of all days joined in four rows.
@@ -37,15 +37,10 @@ days_of starts nodes sources sinks stamps tails heads capacities minimums =
       minimums = minimums;
     }
 
--- The days in nine rows that a call is given.
-abbrev pub given_days : (starts nodes sources sinks stamps tails heads capacities minimums : GivenRow) → Days
-given_days starts nodes sources sinks stamps tails heads capacities minimums =
-    days_of starts.now nodes.now sources.now sinks.now stamps.now tails.now heads.now capacities.now minimums.now
-
--- The days in nine lent rows, as they were before the call.
-abbrev pub lent_days : (starts nodes sources sinks stamps tails heads capacities minimums : LentRow) → Days
-lent_days starts nodes sources sinks stamps tails heads capacities minimums =
-    days_of (before starts) (before nodes) (before sources) (before sinks) (before stamps) (before tails) (before heads) (before capacities) (before minimums)
+-- The days that a lent month holds.
+abbrev pub days_in : LentDays → Days
+days_in d =
+    days_of d.starts.now d.nodes.now d.sources.now d.sinks.now d.stamps.now d.tails.now d.heads.now d.capacities.now d.minimums.now
 
 -- How many tables there are.
 abbrev pub tables : Days → ℕ

@@ -9,12 +9,13 @@ ghost use Rattle.minimums.specs.BoundedTable.{bounded_of, bounded_in};
 ghost use Rattle.solver.specs.Solving.{left};
 ghost use Rattle.tally.specs.Sums.{no_tally};
 ghost use Rattle.verdicts.specs.Plain.{plain_solving};
-ghost use Rattle.days.specs.Days.{nine, held, next_day, first_days, part_left, day_left, lent_days, given_days};
-ghost use Rattle.days.specs.Month.{starts_fall, rows_differ, has_month_room, verdict_of, month_left, month_refusal, month_sums, month};
+ghost use Rattle.days.specs.Days.{nine, held, next_day, first_days, part_left, day_left, days_in};
+ghost use Rattle.days.specs.Month.{month_verdict, starts_fall, rows_differ, has_month_room, month_left, month_sums, month};
 ghost use Rattle.days.specs.Promises.{EachDay};
 ghost use Rattle.days.specs.Ready.{Ready, Countable};
 
-use days::Month;
+use days::{LentDays, Month};
+use minimums::LentBounded;
 use solver::Answer;
 use table::{LentTable, Name, Refusal};
 use tally::Tally;
@@ -34,7 +35,7 @@ fn solve_plain(
 {
     let room = solver::has_room(&bounded.table, flow.len(), side.len(), work.len());
     match minimums::plain_check(bounded, room) {
-        Err(refusal) => solver::refused(name, place),
+        Err(refusal) => refusal.into(),
         Ok(()) => solver::solve_table(&bounded.table, stamp, flow, side, work),
     }
 }
@@ -69,16 +70,17 @@ fn solve_part(
         left result flow.new side.new work.new ≡ part_left a e at flow.old side.old solved }
 {
     let marks_end = at + 512;
+    let part = LentBounded {
+        table: LentTable {
+            tails: &bounded.table.tails[a..e],
+            heads: &bounded.table.heads[a..e],
+            capacities: &bounded.table.capacities[a..e],
+            ..bounded.table
+        },
+        minimums: &bounded.minimums[a..e],
+    };
     solve_plain(
-        TODO(
-            bounded.table.nodes,
-            bounded.table.source,
-            bounded.table.sink,
-            &bounded.table.tails[a..e],
-            &bounded.table.heads[a..e],
-            &bounded.table.capacities[a..e],
-            &bounded.minimums[a..e],
-        ),
+        &part,
         stamp,
         &mut flow[a..e],
         &mut side[at..marks_end],
@@ -91,12 +93,12 @@ fn write_nine(row: &mut [u64], a: Answer)
     requires { length row.old ≡ 9 }
     ensures { row.new ≡ nine a }
 {
-    row[0] = rows::wide(a.refusal);
-    row[1] = rows::wide(a.place);
-    row[2] = rows::wide(a.stamp);
+    row[0] = u64::from(a.refusal);
+    row[1] = u64::from(a.place);
+    row[2] = u64::from(a.stamp);
     row[3] = a.value;
     row[4] = a.scale;
-    row[5] = rows::wide(a.phases);
+    row[5] = u64::from(a.phases);
     row[6] = a.saturating;
     row[7] = a.nonsaturating;
     row[8] = a.relabels;
@@ -114,94 +116,67 @@ fn write_answer(answers: &mut [u64], at: usize, a: Answer)
 // Solves day j, days counted from 0, with its parts of the flow and side rows lent.
 fn answer_day(
     j: usize,
-    starts: &[u32],
-    nodes: &[u32],
-    sources: &[u32],
-    sinks: &[u32],
-    stamps: &[u32],
-    tails: &[u32],
-    heads: &[u32],
-    capacities: &[u32],
-    minimums: &[u32],
+    days: &LentDays,
     flow: &mut [u32],
     side: &mut [u8],
     work: &mut [u32],
 ) -> Answer
-    requires { let days = given_days starts nodes sources sinks stamps tails heads capacities minimums in
-        (j < length starts.now) × ((k : ℕ) × Ready days (length flow.old) (length side.old) k) }
-    ensures { let days = lent_days starts nodes sources sinks stamps tails heads capacities minimums in
+    requires { let days = days_in days.now in
+        (j < length days.starts) × ((k : ℕ) × Ready days (length flow.old) (length side.old) k) }
+    ensures { let days = days_in days.now in
         left result flow.new side.new work.new ≡ day_left days j flow.old side.old work.old }
 {
-    let a = start_of(starts, j, capacities.len());
-    let e = start_of(starts, j + 1, capacities.len());
-    solve_part(
-        TODO(
-            nodes[j], sources[j], sinks[j], tails, heads, capacities, minimums,
-        ),
-        stamps[j],
-        a,
-        e,
-        512 * j,
-        flow,
-        side,
-        work,
-    )
+    let a = start_of(days.starts, j, days.capacities.len());
+    let e = start_of(days.starts, j + 1, days.capacities.len());
+    let bounded = LentBounded {
+        table: LentTable {
+            nodes: days.nodes[j],
+            source: days.sources[j],
+            sink: days.sinks[j],
+            tails: days.tails,
+            heads: days.heads,
+            capacities: days.capacities,
+        },
+        minimums: days.minimums,
+    };
+    solve_part(&bounded, days.stamps[j], a, e, 512 * j, flow, side, work)
 }
 
 // One day more: its flows and marks go to their places, and its nine numbers to the answer row.
 fn solve_day(
     j: usize,
     tally: Tally,
-    starts: &[u32],
-    nodes: &[u32],
-    sources: &[u32],
-    sinks: &[u32],
-    stamps: &[u32],
-    tails: &[u32],
-    heads: &[u32],
-    capacities: &[u32],
-    minimums: &[u32],
+    days: &LentDays,
     flow: &mut [u32],
     side: &mut [u8],
     work: &mut [u32],
     answers: &mut [u64],
 ) -> Tally
-    requires fact { let days = given_days starts nodes sources sinks stamps tails heads capacities minimums in
+    requires fact { let days = days_in days.now in
         Ready days (length flow.old) (length side.old) (length answers.old) }
-    requires j_in_bounds { (j < length starts.now) × Countable j tally }
-    ensures { let days = lent_days starts nodes sources sinks stamps tails heads capacities minimums in
+    requires j_in_bounds { (j < length days.now.starts.now) × Countable j tally }
+    ensures { let days = days_in days.now in
         held result flow.new side.new work.new answers.new
         ≡ next_day days j (held tally flow.old side.old work.old answers.old) }
 {
-    let answer = answer_day(
-        j, starts, nodes, sources, sinks, stamps, tails, heads, capacities, minimums, flow, side,
-        work,
-    );
+    let answer = answer_day(j, days, flow, side, work);
     write_answer(answers, 9 * j, answer);
     tally::count_day(tally, (j + 1) as u32, answer)
 }
 
 // Solves all days, one after the other.
 fn solve_days(
-    starts: &[u32],
-    nodes: &[u32],
-    sources: &[u32],
-    sinks: &[u32],
-    stamps: &[u32],
-    tails: &[u32],
-    heads: &[u32],
-    capacities: &[u32],
-    minimums: &[u32],
+    days: &LentDays,
     flow: &mut [u32],
     side: &mut [u8],
     work: &mut [u32],
     answers: &mut [u64],
 ) -> Tally
-    requires { let days = given_days starts nodes sources sinks stamps tails heads capacities minimums in
+    requires { let days = days_in days.now in
         Ready days (length flow.old) (length side.old) (length answers.old) }
-    ensures { let days = lent_days starts nodes sources sinks stamps tails heads capacities minimums in
+    ensures { let days = days_in days.now in
         held result flow.new side.new work.new answers.new
-        ≡ first_days days (length starts.now) (held no_tally flow.old side.old work.old answers.old) }
+        ≡ first_days days (length days.starts) (held no_tally flow.old side.old work.old answers.old) }
 {
     let mut tally = Tally {
         solved: 0,
@@ -209,13 +184,8 @@ fn solve_days(
         day: 0,
         least: 0,
     };
-    let mut j: usize = 0;
-    while j < starts.len() {
-        tally = solve_day(
-            j, tally, starts, nodes, sources, sinks, stamps, tails, heads, capacities, minimums,
-            flow, side, work, answers,
-        );
-        j += 1;
+    for j in 0..days.starts.len() {
+        tally = solve_day(j, tally, days, flow, side, work, answers);
     }
     tally
 }
@@ -227,12 +197,10 @@ fn do_fall(starts: &[u32], end: usize) -> bool
     ensures { result ≡ starts_fall starts.now end (length starts.now) }
 {
     let mut fall = false;
-    let mut k: usize = 0;
-    while k < starts.len() {
+    for k in 0..starts.len() {
         if start_of(starts, k + 1, end) < start_of(starts, k, end) {
             fall = true;
         }
-        k += 1;
     }
     fall
 }
@@ -258,85 +226,48 @@ fn do_differ(one: usize, two: usize, three: usize) -> bool
     one != two || one != three
 }
 
-// Does either set of rows, of these lengths, differ?
-fn do_rows_differ(
-    starts: usize,
-    nodes: usize,
-    sources: usize,
-    sinks: usize,
-    stamps: usize,
-    tails: usize,
-    heads: usize,
-    capacities: usize,
-    minimums: usize,
-) -> bool
-    ensures { result ≡ rows_differ starts nodes sources sinks stamps tails heads capacities minimums }
+// Do the lengths of either set of rows differ?
+fn do_rows_differ(days: &LentDays) -> bool
+    ensures { result ≡ rows_differ (length days.now.starts.now) (length days.now.nodes.now) (length days.now.sources.now) (length days.now.sinks.now) (length days.now.stamps.now)
+        (length days.now.tails.now) (length days.now.heads.now) (length days.now.capacities.now) (length days.now.minimums.now) }
 {
-    if do_differ(tails, heads, capacities) {
+    let m = days.capacities.len();
+    if do_differ(days.tails.len(), days.heads.len(), m) {
         return true;
     }
-    if capacities != minimums {
+    if m != days.minimums.len() {
         return true;
     }
-    if do_differ(starts, nodes, sources) {
+    let k = days.starts.len();
+    if do_differ(k, days.nodes.len(), days.sources.len()) {
         return true;
     }
-    do_differ(starts, sinks, stamps)
+    do_differ(k, days.sinks.len(), days.stamps.len())
 }
 
-// The first refusal of the whole call, if any, of these starts and rows of these lengths.
-fn month_verdict(
-    starts: &[u32],
-    nodes: usize,
-    sources: usize,
-    sinks: usize,
-    stamps: usize,
-    tails: usize,
-    heads: usize,
-    capacities: usize,
-    minimums: usize,
-    flow: usize,
-    side: usize,
-    answers: usize,
-) -> Result<(), Refusal>
-    ensures { result ≡ verdict_of starts.now nodes sources sinks stamps tails heads capacities minimums flow side answers }
+// The first refusal of the whole call, if any, with rows of these lengths lent.
+fn month_verdict(days: &LentDays, flow: usize, side: usize, answers: usize) -> Result<(), Refusal>
+    ensures { result ≡ month_verdict (days_in days.now) flow side answers }
 {
-    if 31 < starts.len() {
+    if 31 < days.starts.len() {
         return Err(Name::Many.at(0));
     }
-    if do_rows_differ(
-        starts.len(),
-        nodes,
-        sources,
-        sinks,
-        stamps,
-        tails,
-        heads,
-        capacities,
-        minimums,
-    ) {
+    if do_rows_differ(days) {
         return Err(Name::Rows.at(0));
     }
-    if do_fall(starts, capacities) {
+    if do_fall(days.starts, days.capacities.len()) {
         return Err(Name::Starts.at(0));
     }
-    if !has_month_room(starts.len(), capacities, flow, side, answers) {
+    if !has_month_room(
+        days.starts.len(),
+        days.capacities.len(),
+        flow,
+        side,
+        answers,
+    ) {
         return Err(Name::Room.at(0));
     }
     Ok(())
-}
-
-// The result of a refusal of the whole call.
-fn refused_month(name: Name, place: u32) -> Month
-    ensures { result ≡ month_refusal name place }
-{
-    Month {
-        refusal: table::number(name),
-        place,
-        solved: 0,
-        total: 0,
-        day: 0,
-    }
 }
 
 // The result of the sums.
@@ -354,44 +285,20 @@ fn month_sums(tally: Tally) -> Month
 
 // Solves up to 31 day tables whose arcs are joined in shared rows, each as if given by itself; or the first refusal of the whole call, with nothing written.
 pub fn solve_month(
-    starts: &[u32],
-    nodes: &[u32],
-    sources: &[u32],
-    sinks: &[u32],
-    stamps: &[u32],
-    tails: &[u32],
-    heads: &[u32],
-    capacities: &[u32],
-    minimums: &[u32],
+    days: &LentDays,
     flow: &mut [u32],
     side: &mut [u8],
     work: &mut [u32],
     answers: &mut [u64],
 ) -> Month
-    ensures exact { let days = lent_days starts nodes sources sinks stamps tails heads capacities minimums in
+    ensures exact { let days = days_in days.now in
         month_left result flow.new side.new work.new answers.new ≡ month days flow.old side.old work.old answers.old }
-    ensures each { let days = lent_days starts nodes sources sinks stamps tails heads capacities minimums in
+    ensures each { let days = days_in days.now in
         result.refusal ≡ 0
         → EachDay days flow.old side.old work.old answers.old flow.new side.new work.new answers.new result }
 {
-    match month_verdict(
-        starts,
-        nodes.len(),
-        sources.len(),
-        sinks.len(),
-        stamps.len(),
-        tails.len(),
-        heads.len(),
-        capacities.len(),
-        minimums.len(),
-        flow.len(),
-        side.len(),
-        answers.len(),
-    ) {
-        Err(refusal) => refused_month(name, place),
-        Ok(()) => month_sums(solve_days(
-            starts, nodes, sources, sinks, stamps, tails, heads, capacities, minimums, flow, side,
-            work, answers,
-        )),
+    match month_verdict(days, flow.len(), side.len(), answers.len()) {
+        Err(refusal) => refusal.into(),
+        Ok(()) => month_sums(solve_days(days, flow, side, work, answers)),
     }
 }

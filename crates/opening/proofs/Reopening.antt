@@ -221,13 +221,13 @@ module _ (b : BoundedTable) (stamp place new : ℕ) (flow side work : List ℕ) 
 
   -- And 23 says that the row is not a maximum flow of the old table.
   pub opening_notmax : l.answer.refusal ≡ 23 → MaximumFlow b.table flow → ⊥
-  opening_notmax refused = go (opening_verdict b place new flow (length side) (length work)) refl
+  opening_notmax told = go (opening_verdict b place new flow (length side) (length work)) refl
     where
       go : (v : Verdict) → v ≡ opening_verdict b place new flow (length side) (length work) → MaximumFlow b.table flow → ⊥
       go (Ok _) e most =
           let zero = ap (λ (x : Left). x.answer.refusal) (fine_opening b stamp place new flow side work no_refusal e refl ∙ sym same) in
-          omega (arith, went_fine (opened b.table place new) stamp flow side work, zero, refused)
+          omega (arith, went_fine (opened b.table place new) stamp flow side work, zero, told)
       go (Err why) e most =
           notmax_not b place new flow (length side) (length work)
-          (ap refusal_in (sym e) ∙ ap (λ (x : Left). x.answer.refusal) (refused_opening b stamp place new flow side work (refused why.name why.place) e why.name why.place refl ∙ sym same) ∙ refused)
+          (ap refusal_in (sym e) ∙ ap (λ (x : Left). x.answer.refusal) (refused_opening b stamp place new flow side work (refused why.name why.place) e why.name why.place refl ∙ sym same) ∙ told)
           most

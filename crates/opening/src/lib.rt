@@ -16,6 +16,7 @@ ghost use Rattle.opening.specs.Maximum.{MaximumFlow, is_within, keeps, is_kept, 
 ghost use Rattle.opening.specs.Opening.{opened, opened_answer, change_verdict, went_on, opening_as, opening, Reopens};
 ghost use Rattle.opening.specs.Steps.{Opens};
 
+use minimums::LentBounded;
 use solver::Answer;
 use table::{LentTable, Name, Refusal};
 
@@ -275,22 +276,14 @@ fn open_rows(
         left result flow.new side.new work.new ≡ went_on (opened table place capacity) stamp flow.old side.old work.old }
 {
     open_capacity(bounded.table.capacities, place as usize, capacity, new);
-    go_on_rows(
-        TODO(
-            bounded.table.nodes,
-            bounded.table.source,
-            bounded.table.sink,
-            bounded.table.tails,
-            bounded.table.heads,
-            new,
-            bounded.minimums,
-        ),
-        stamp,
-        lists,
-        flow,
-        side,
-        work,
-    )
+    let opened = LentBounded {
+        table: LentTable {
+            capacities: new,
+            ..bounded.table
+        },
+        minimums: bounded.minimums,
+    };
+    go_on_rows(&opened, stamp, lists, flow, side, work)
 }
 
 // The same for a flow row that may be longer, in room of its own for the capacities. The lists of these arcs stand in the row `lists`.
@@ -312,16 +305,12 @@ fn open_table(
     let m = table.capacities.len();
     let mut new = [0u32; 4096];
     let minimums = [0u32; 4096];
+    let bounded = LentBounded {
+        table: *table,
+        minimums: &minimums[..m],
+    };
     open_rows(
-        TODO(
-            table.nodes,
-            table.source,
-            table.sink,
-            table.tails,
-            table.heads,
-            table.capacities,
-            &minimums[..m],
-        ),
+        &bounded,
         stamp,
         place,
         capacity,
@@ -353,7 +342,7 @@ fn open_listed(
 {
     arcs::fill_work(table.nodes, table.tails, table.heads, lists);
     match change_verdict(table, place, capacity, flow, lists) {
-        Err(refusal) => solver::refused(name, at),
+        Err(refusal) => refusal.into(),
         Ok(()) => open_table(table, stamp, place, capacity, lists, flow, side, work),
     }
 }
@@ -397,7 +386,7 @@ pub fn open(
 {
     let room = solver::has_room(&bounded.table, flow.len(), side.len(), work.len());
     match minimums::plain_check(bounded, room) {
-        Err(refusal) => solver::refused(name, at),
+        Err(refusal) => refusal.into(),
         Ok(()) => open_accepted(&bounded.table, stamp, place, capacity, flow, side, work),
     }
 }

@@ -14,6 +14,7 @@ ghost use Rattle.openings.specs.Helping.{nodes_in, places_in, HelpsExactly};
 ghost use Rattle.openings.specs.Sides.{Sides};
 ghost use Rattle.openings.specs.Finding.{openings_with, has_lists, Listed, handed, lists_verdict, finding_as, finding, left_openings};
 
+use minimums::LentBounded;
 use solver::Answer;
 use table::{LentTable, Name, Refusal};
 
@@ -198,24 +199,24 @@ fn write_lists(
     }
 }
 
-// The answer of a refusal.
-fn no_openings(name: Name, place: u32) -> Openings
-    ensures { result ≡ openings_with (refusal name place) 0 0 0 }
-{
-    Openings {
-        answer: solver::refused(name, place),
-        sources: 0,
-        sinks: 0,
-        places: 0,
+// The answer of a refusal: its number and place, other fields 0.
+impl From<Refusal> for Openings {
+    ghost from_gives = { λ r answer. answer ≡ openings_with (refusal r.name r.place) 0 0 0 };
+
+    fn from(refusal: Refusal) -> Openings {
+        Openings {
+            answer: refusal.into(),
+            sources: 0,
+            sinks: 0,
+            places: 0,
+        }
     }
 }
 
 // Hands over what was solved in rows of the call's own: the rows and the lists, or ROOM where a list is too short, with nothing written.
 fn hand_lists(
-    n: u32,
+    table: &LentTable,
     answer: Answer,
-    tails: &[u32],
-    heads: &[u32],
     flows: &[u32],
     marks: &[u8],
     drains: &[u8],
@@ -226,17 +227,17 @@ fn hand_lists(
     sinks: &mut [u32],
     places: &mut [u32],
 ) -> Openings
-    requires arc_ends { ArcEnds n tails.now heads.now × (length tails.now ≤ length flows.now) × (n ≤ length marks.now)
-        × (n ≤ length drains.now) }
-    requires given_room { GivenRoom n tails.now flow.old side.old work.old }
+    requires arc_ends { ArcEnds table.now.nodes table.now.tails.now table.now.heads.now × (length table.now.tails.now ≤ length flows.now) × (table.now.nodes ≤ length marks.now)
+        × (table.now.nodes ≤ length drains.now) }
+    requires given_room { GivenRoom table.now.nodes table.now.tails.now flow.old side.old work.old }
     ensures { left_openings result flow.new side.new work.new sources.new sinks.new places.new
-        ≡ handed n answer tails.now heads.now (take (length tails.now) flows.now) (take n marks.now) (take n drains.now)
+        ≡ handed table.now.nodes answer table.now.tails.now table.now.heads.now (take (length table.now.tails.now) flows.now) (take table.now.nodes marks.now) (take table.now.nodes drains.now)
         flow.old side.old work.old sources.old sinks.old places.old }
 {
-    let nodes = n as usize;
+    let nodes = table.nodes as usize;
     let room = has_lists(
-        tails,
-        heads,
+        table.tails,
+        table.heads,
         &marks[..nodes],
         &drains[..nodes],
         sources.len(),
@@ -244,13 +245,13 @@ fn hand_lists(
         places.len(),
     );
     if !room {
-        return no_openings(Name::Room, 0);
+        return Name::Room.at(0).into();
     }
-    solver::hand_over(n, tails.len(), flows, marks, flow, side, work);
+    solver::hand_over(table, flows, marks, flow, side, work);
     write_lists(
         answer,
-        tails,
-        heads,
+        table.tails,
+        table.heads,
         &marks[..nodes],
         &drains[..nodes],
         sources,
@@ -283,19 +284,7 @@ fn find_accepted(
     let mut room = [0u32; 4 * 512 + 2 * 4096 + 1];
     let answer = solve_sides(table, stamp, &mut flows, &mut marks, &mut drains, &mut room);
     hand_lists(
-        table.nodes,
-        answer,
-        table.tails,
-        table.heads,
-        &flows,
-        &marks,
-        &drains,
-        flow,
-        side,
-        work,
-        sources,
-        sinks,
-        places,
+        table, answer, &flows, &marks, &drains, flow, side, work, sources, sinks, places,
     )
 }
 
@@ -318,7 +307,7 @@ pub fn find_openings(
 {
     let room = solver::has_room(&bounded.table, flow.len(), side.len(), work.len());
     match minimums::plain_check(bounded, room) {
-        Err(refusal) => no_openings(name, place),
+        Err(refusal) => refusal.into(),
         Ok(()) => find_accepted(
             &bounded.table,
             stamp,

@@ -5,30 +5,13 @@ ghost use Rattle.std.specs.Prelude.{◌≡◌, cond, ◌^◌, ◌≤◌, ◌<◌
 ghost use Rattle.table.specs.Table.{table_in};
 ghost use Rattle.table.specs.Accepted.{Accepted};
 ghost use Rattle.minimums.specs.BoundedTable.{bounded_in};
-ghost use Rattle.asking.specs.Asking.{room_left, room_need, has_work, refusal, answer_with, asking, Says};
+ghost use Rattle.asking.specs.Asking.{room_left, room_need, has_work, answer_with, asking, Says};
 ghost use Rattle.room.specs.Steps.{Halted};
 
 use asking::Room;
-use table::{LentTable, Name, Refusal};
+use minimums::LentBounded;
+use table::LentTable;
 use work::Stop;
-
-// The answer of a refusal.
-fn refused(name: Name, place: u32) -> Room
-    ensures { result ≡ refusal name place }
-{
-    Room {
-        refusal: table::number(name),
-        place,
-        stamp: 0,
-        yes: 0,
-        value: 0,
-        scale: 0,
-        phases: 0,
-        saturating: 0,
-        nonsaturating: 0,
-        relabels: 0,
-    }
-}
 
 // 1 for yes, 0 for no.
 fn mark(yes: bool) -> u32
@@ -118,7 +101,7 @@ pub fn has_room_for(bounded: &LentBounded, stamp: u32, q: u64, work: &mut [u32])
         work.len(),
     );
     match minimums::plain_check(bounded, roomy) {
-        Err(refusal) => refused(name, place),
+        Err(refusal) => refusal.into(),
         Ok(()) => {
             let stop = halt(&bounded.table, q, work);
             answer_of(stamp, q, stop)

@@ -15,8 +15,9 @@ ghost use Rattle.shrinking.specs.Smaller.{from_source, to_sink, arc_by, back_by}
 ghost use Rattle.keeping.specs.SmallRows.{small_rows};
 ghost use Rattle.smaller.specs.Reducing.{left_reduced, reduced_with, shrunk, has_small_room, reducing, Reduces, GivenRoomToReduce};
 
+use minimums::LentBounded;
 use solver::Answer;
-use table::{LentTable, Name, Refusal};
+use table::{LentTable, Refusal};
 
 // Marks what the source reaches and what reaches the sink over arcs of capacity above 0, by lists that stay in their row.
 fn find_live(
@@ -31,7 +32,7 @@ fn find_live(
         × (table.now.nodes ≤ length ahead.old) × (table.now.nodes ≤ length behind.old) }
     ensures in_work { InWork (table_in table.now) lists.new }
     ensures fact { let table = table_in table.now in
-        (take table.now.nodes ahead.new ≡ from_source table) × (take table.now.nodes behind.new ≡ to_sink table) }
+        (take table.nodes ahead.new ≡ from_source table) × (take table.nodes behind.new ≡ to_sink table) }
 {
     arcs::fill_work(table.nodes, table.tails, table.heads, lists);
     reach::mark(
@@ -79,20 +80,15 @@ fn solve_small(
         (result ≡ solution small stamp) × (take arcs flows.new ≡ (run small).state.flow) }
 {
     let m = arcs as usize;
-    solver::solve_table(
-        TODO(
-            nodes,
-            source,
-            sink,
-            &small_tails[..m],
-            &small_heads[..m],
-            &small_capacities[..m],
-        ),
-        stamp,
-        flows,
-        marks,
-        room,
-    )
+    let small = LentTable {
+        nodes,
+        source,
+        sink,
+        tails: &small_tails[..m],
+        heads: &small_heads[..m],
+        capacities: &small_capacities[..m],
+    };
+    solver::solve_table(&small, stamp, flows, marks, room)
 }
 
 // Puts the flow back, marks the side afresh by the lists that still stand, and clears the work row. The flow row has just its m places.
@@ -251,7 +247,7 @@ fn reduce_cut(
     arcs_from: &mut [u32],
 ) -> Reduced
     requires fact { let table = table_in table.now in
-        Accepted table × InWork table lists.now × (take table.now.nodes ahead.now ≡ from_source table) × (take table.now.nodes behind.now ≡ to_sink table) }
+        Accepted table × InWork table lists.now × (take table.nodes ahead.now ≡ from_source table) × (take table.nodes behind.now ≡ to_sink table) }
     requires n_in_bounds { (table.now.nodes ≤ length ahead.now) × (table.now.nodes ≤ length behind.now) × (table.now.nodes ≤ length numbers.old) × (4096 ≤ length flows.old)
         × (512 ≤ length marks.old) × (10241 ≤ length room.old) × (length table.now.capacities.now ≤ length flow.old) }
     requires given_room_to_reduce { GivenRoomToReduce table.now.nodes table.now.capacities.now side.old work.old small_tails.old small_heads.old small_capacities.old nodes_from.old arcs_from.old }
@@ -366,17 +362,19 @@ fn has_small_room(
     m <= arcs_from
 }
 
-// The answer of a refusal.
-fn not_reduced(name: Name, place: u32) -> Reduced
-    ensures { result ≡ reduced_with (refusal name place) 0 0 0 0 0 }
-{
-    Reduced {
-        answer: solver::refused(name, place),
-        nodes: 0,
-        arcs: 0,
-        source: 0,
-        sink: 0,
-        stamp: 0,
+// The answer of a refusal: its number and place, other fields 0.
+impl From<Refusal> for Reduced {
+    ghost from_gives = { λ r answer. answer ≡ reduced_with (refusal r.name r.place) 0 0 0 0 0 };
+
+    fn from(refusal: Refusal) -> Reduced {
+        Reduced {
+            answer: refusal.into(),
+            nodes: 0,
+            arcs: 0,
+            source: 0,
+            sink: 0,
+            stamp: 0,
+        }
     }
 }
 
@@ -415,7 +413,7 @@ pub fn reduce(
         arcs_from.len(),
     );
     match minimums::plain_check(bounded, room) {
-        Err(refusal) => not_reduced(name, place),
+        Err(refusal) => refusal.into(),
         Ok(()) => reduce_accepted(
             &bounded.table,
             stamp,

@@ -158,13 +158,13 @@ pub fn hand_over(
     side: &mut [u8],
     work: &mut [u32],
 )
-    requires flows_long { (arcs (table_in table.now) ≤ length flows.now) × (table.now.nodes ≤ length marks.now) }
-    requires given_room { GivenRoom table.now.nodes table.now.capacities.now flow.old side.old work.old }
-    ensures flow_value { flow.new ≡ take (arcs (table_in table.now)) flows.now ++ drop (arcs (table_in table.now)) flow.old }
+    requires flows_long { (length table.now.tails.now ≤ length flows.now) × (table.now.nodes ≤ length marks.now) }
+    requires given_room { GivenRoom table.now.nodes table.now.tails.now flow.old side.old work.old }
+    ensures flow_value { flow.new ≡ take (length table.now.tails.now) flows.now ++ drop (length table.now.tails.now) flow.old }
     ensures side_value { side.new ≡ take table.now.nodes marks.now ++ drop table.now.nodes side.old }
-    ensures work_value { work.new ≡ cleared (work_need table.now.nodes (arcs (table_in table.now))) work.old }
+    ensures work_value { work.new ≡ cleared (work_need table.now.nodes (length table.now.tails.now)) work.old }
 {
-    let m = table.capacities.len();
+    let m = table.tails.len();
     let nodes = table.nodes as usize;
     rows::store(flow, 0, &flows[..m]);
     rows::store_marks(side, &marks[..nodes]);

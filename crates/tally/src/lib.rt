@@ -7,7 +7,7 @@ ghost use Rattle.tally.specs.Sums.{is_lower, counted, tallied};
 use solver::Answer;
 
 // The sums so far: the tables solved, the total value, the first solved day of least value, and that value.
-#[derive(Clone, Copy)]
+#[derive(Clone, Copy, Debug, PartialEq, Eq)]
 pub struct Tally {
     pub solved: u32,
     pub total: u64,
@@ -34,15 +34,15 @@ fn count_solved(tally: Tally, day: u32, value: u64) -> Tally
     let total = tally.total + value;
     if is_lower(tally, value) {
         return Tally {
-            solved: solved,
-            total: total,
-            day: day,
+            solved,
+            total,
+            day,
             least: value,
         };
     }
     Tally {
-        solved: solved,
-        total: total,
+        solved,
+        total,
         day: tally.day,
         least: tally.least,
     }

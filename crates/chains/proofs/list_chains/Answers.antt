@@ -25,7 +25,7 @@ returns-in-Err c =
     let whole : (l : Shown) → l ≡ listing bounded c.args.stamp c.args.flow.now c.args.side.now c.args.work.now c.args.list.now → (l ≡ listing bounded c.args.stamp c.args.flow.now c.args.side.now c.args.work.now c.args.list.now) × (l.solving.answer.refusal ≡ 0 → Shows bounded.table l) = λ l e. (e, listing_shows bounded c.args.stamp c.args.flow.now c.args.side.now c.args.work.now c.args.list.now l e) in
     let given = c.args in
     let the_facts = whole _
-    (refused_listing bounded given.stamp given.flow.now given.side.now given.work.now given.list.now _ found _ _ c.in-Err.is c.refused.result c.refused.ensures) in record {
+    (refused_listing bounded given.stamp given.flow.now given.side.now given.work.now given.list.now _ found _ _ c.in-Err.is c.into.result c.into.ensures) in record {
       exact = the_facts.0;
       shows = the_facts.1;
     }

@@ -10,25 +10,17 @@ use Rattle.month.proofs.do_fall.Goals.{then-start_of, else-start_of}
 
 pub loop-k-init : goal.loop-k-init
 unfolding starts_fall
-loop-k-init c = (omega arith, refl)
-
-pub start_of-requires : goal.start_of-requires
-start_of-requires c = tt
-
-pub start_of-requires-in-loop-k : goal.start_of-requires-in-loop-k
-start_of-requires-in-loop-k c = tt
+loop-k-init c = refl
 
 pub loop-k-preserved : goal.loop-k-preserved
 loop-k-preserved c =
-    let given = c.args in (
-      omega arith,
-      elim c.if-start_of.branch [
-        | then-start_of w ↦ w.fall-is ∙ falls_here given.starts.now given.end c.loop-k.k c.loop-k.invariant.1 c.start_of.ensures c.start_of-in-loop-k.ensures w.if-start_of.true
-        | else-start_of w ↦ w.fall-is ∙ rises_here given.starts.now given.end c.loop-k.k c.loop-k.invariant.1 c.start_of.ensures c.start_of-in-loop-k.ensures w.if-start_of.false
-      ],
-    )
+    let given = c.args in
+    elim c.if-start_of.branch [
+      | then-start_of w ↦ w.fall-is ∙ falls_here given.starts.now given.end c.loop-k.k c.loop-k.invariant c.start_of.ensures c.start_of-in-loop-k.ensures w.if-start_of.true
+      | else-start_of w ↦ w.fall-is ∙ rises_here given.starts.now given.end c.loop-k.k c.loop-k.invariant c.start_of.ensures c.start_of-in-loop-k.ensures w.if-start_of.false
+    ]
 
 pub returns : goal.returns
 returns c =
     let given = c.args in
-    c.loop-k.invariant.1 ∙ ap (starts_fall given.starts.now given.end) (omega arith)
+    c.loop-k.invariant ∙ ap (starts_fall given.starts.now given.end) (omega arith)

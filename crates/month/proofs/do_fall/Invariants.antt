@@ -6,7 +6,4 @@ use Rattle.days.specs.Month.{starts_fall}
 use Rattle.month.proofs.do_fall.Given as goal
 
 abbrev pub invariant-loop-k : goal.invariant-loop-k
-invariant-loop-k l = (l.k ≤ length l.starts) × (l.fall ≡ starts_fall l.starts l.end l.k)
-
-abbrev pub decreases-loop-k : goal.decreases-loop-k
-decreases-loop-k l = length l.starts - l.k
+invariant-loop-k l = l.fall ≡ starts_fall l.starts l.end l.k

@@ -11,16 +11,16 @@ pub returns-then-do_differ : goal.returns-then-do_differ
 unfolding rows_differ differ_four
 returns-then-do_differ c = simp (← c.do_differ.ensures, c.if-do_differ.true)
 
-pub returns-then-capacities-minimums : goal.returns-then-capacities-minimums
+pub returns-then-m-days : goal.returns-then-m-days
 unfolding rows_differ differ_four
-returns-then-capacities-minimums c = simp (← c.do_differ.ensures, c.if-do_differ.false, ne_eqb _ _ c.if-capacities-minimums.true)
+returns-then-m-days c = simp (← c.do_differ.ensures, c.if-do_differ.false, ne_eqb _ _ c.if-m-days.true)
 
 pub returns-then-do_differ-2 : goal.returns-then-do_differ-2
 unfolding rows_differ differ_four
 returns-then-do_differ-2 c =
-    simp (← c.do_differ.ensures, c.if-do_differ.false, eq-eqb _ _ c.if-capacities-minimums.false, ← c.do_differ-2.ensures, c.if-do_differ-2.true)
+    simp (← c.do_differ.ensures, c.if-do_differ.false, eq-eqb _ _ c.if-m-days.false, ← c.do_differ-2.ensures, c.if-do_differ-2.true)
 
 pub returns : goal.returns
 unfolding rows_differ differ_four
 returns c =
-    last_of_four c.do_differ.ensures c.if-do_differ.false (ap not (eq-eqb _ _ c.if-capacities-minimums.false)) c.do_differ-2.ensures c.if-do_differ-2.false c.do_differ-3.ensures
+    last_of_four c.do_differ.ensures c.if-do_differ.false (ap not (eq-eqb _ _ c.if-m-days.false)) c.do_differ-2.ensures c.if-do_differ-2.false c.do_differ-3.ensures

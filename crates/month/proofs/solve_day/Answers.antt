@@ -1,6 +1,6 @@
 -- `solve_day` meets its contract: the day is answered, its numbers written and its value counted.
 use native.Mathlib.Omega.{arith}
-use Rattle.days.specs.Days.{Days, held, days_of}
+use Rattle.days.specs.Days.{days_in, Days, held, days_of}
 use Rattle.days.proofs.Course.{day_held, day_value}
 use Rattle.month.proofs.solve_day.Goals as goal
 
@@ -22,13 +22,13 @@ overflow_cast-j c =
 
 pub count_day-requires : goal.count_day-requires
 count_day-requires c =
-    let days : Days = days_of c.args.starts.now c.args.nodes.now c.args.sources.now c.args.sinks.now c.args.stamps.now c.args.tails.now c.args.heads.now c.args.capacities.now c.args.minimums.now in
+    let days : Days = days_in c.args.days.now in
     let given = c.args in
     let small = day_value days given.j given.flow.now given.side.now given.work.now _ c.answer_day-answer.ensures in
     (omega (arith, c.requires.fact.few, c.requires.j_in_bounds.0, c.requires.j_in_bounds.1.tables_few), omega (arith, c.requires.fact.few, c.requires.j_in_bounds.0, c.requires.j_in_bounds.1.total_small, small))
 
 pub returns : goal.returns
 returns c =
-    let days : Days = days_of c.args.starts.now c.args.nodes.now c.args.sources.now c.args.sinks.now c.args.stamps.now c.args.tails.now c.args.heads.now c.args.capacities.now c.args.minimums.now in
+    let days : Days = days_in c.args.days.now in
     let given = c.args in
     day_held days given.j (held given.tally given.flow.now given.side.now given.work.now given.answers.now) _ c.answer_day-answer.ensures c.count_day.ensures c.write_answer.ensures

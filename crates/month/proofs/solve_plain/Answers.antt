@@ -23,7 +23,7 @@ returns-in-Err c =
     let table : BoundedTable = bounded_in c.args.bounded.now in
     let found : c.plain_check.result ≡ plain_verdict table (length c.args.flow.now) (length c.args.side.now) (length c.args.work.now) = c.plain_check.ensures ∙ ap (plain_check table) c.has_room-room.ensures in
     let given = c.args in
-    refused_plain table given.stamp given.flow.now given.side.now given.work.now _ _ (sym found ∙ c.in-Err.is) c.refused.ensures
+    refused_plain table given.stamp given.flow.now given.side.now given.work.now _ _ (sym found ∙ c.in-Err.is) c.into.ensures
 
 pub returns-in-Ok : goal.returns-in-Ok
 returns-in-Ok c =

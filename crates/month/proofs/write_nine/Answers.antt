@@ -25,5 +25,5 @@ bounds-row-8 c = simp length-set (omega arith)
 pub returns : goal.returns
 returns c =
     let a = c.args.a in
-    sets_all c.args.row.now (c.wide.result ∷ c.wide-2.result ∷ c.wide-3.result ∷ a.value ∷ a.scale ∷ c.wide-4.result ∷ a.saturating ∷ a.nonsaturating ∷ a.relabels ∷ []) (sym c.requires)
-    ∙ nine_is a _ _ _ _ c.wide.ensures.0 c.wide-2.ensures.0 c.wide-3.ensures.0 c.wide-4.ensures.0
+    sets_all c.args.row.now (c.from.result ∷ c.from-2.result ∷ c.from-3.result ∷ a.value ∷ a.scale ∷ c.from-4.result ∷ a.saturating ∷ a.nonsaturating ∷ a.relabels ∷ []) (sym c.requires)
+    ∙ nine_is a _ _ _ _ c.from.ensures c.from-2.ensures c.from-3.ensures c.from-4.ensures

@@ -24,8 +24,8 @@ returns-in-Err c =
     let found : c.plain_check.result ≡ plain_check table (has_room c.args.bounded.now.table.nodes (length c.args.bounded.now.table.capacities.now) (length c.args.flow.now) (length c.args.side.now) (length c.args.work.now)) =
     c.plain_check.ensures ∙ ap (plain_check table) c.has_room-room.ensures in
     let given = c.args in
-    let exact : left c.refused.result given.flow.now given.side.now given.work.now ≡ opening table given.stamp given.place given.capacity given.flow.now given.side.now given.work.now =
-    refused_own table given.stamp given.place given.capacity given.flow.now given.side.now given.work.now _ found _ _ c.in-Err.is c.refused.result c.refused.ensures in record {
+    let exact : left c.into.result given.flow.now given.side.now given.work.now ≡ opening table given.stamp given.place given.capacity given.flow.now given.side.now given.work.now =
+    refused_own table given.stamp given.place given.capacity given.flow.now given.side.now given.work.now _ found _ _ c.in-Err.is c.into.result c.into.ensures in record {
       exact = exact;
       best = opening_reopens table given.stamp given.place given.capacity given.flow.now given.side.now given.work.now _ exact;
       notmax = opening_notmax table given.stamp given.place given.capacity given.flow.now given.side.now given.work.now _ exact;

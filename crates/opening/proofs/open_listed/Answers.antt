@@ -26,7 +26,7 @@ pub returns-in-Err : goal.returns-in-Err
 returns-in-Err c =
     let table : Table = table_in c.args.table.now in
     let given = c.args in
-    refused_change table given.stamp given.place given.capacity given.flow.now given.side.now given.work.now _ c.change_verdict.ensures _ _ c.in-Err.is c.refused.result c.refused.ensures
+    refused_change table given.stamp given.place given.capacity given.flow.now given.side.now given.work.now _ c.change_verdict.ensures _ _ c.in-Err.is c.into.result c.into.ensures
 
 pub returns-in-Ok : goal.returns-in-Ok
 returns-in-Ok c =

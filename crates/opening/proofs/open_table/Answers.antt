@@ -20,16 +20,16 @@ slice_bounds-minimums-end c =
     let few : length c.args.table.now.capacities.now ≤ 4096 = omega (arith, c.requires.opens.accepted.rows.ends.few_arcs, c.requires.opens.accepted.rows.capacities_long) in
     few
 
-pub slice_bounds-open_rows-end-2 : goal.slice_bounds-open_rows-end-2
-slice_bounds-open_rows-end-2 c =
+pub slice_bounds-bounded-end : goal.slice_bounds-bounded-end
+slice_bounds-bounded-end c =
     let few : length c.args.table.now.capacities.now ≤ 4096 = omega (arith, c.requires.opens.accepted.rows.ends.few_arcs, c.requires.opens.accepted.rows.capacities_long) in
     sym (length-take-le _ _ few)
 
-pub slice_bounds-open_rows-end-3 : goal.slice_bounds-open_rows-end-3
-slice_bounds-open_rows-end-3 c = c.requires.opens.for_flow
+pub slice_bounds-open_rows-end-2 : goal.slice_bounds-open_rows-end-2
+slice_bounds-open_rows-end-2 c = c.requires.opens.for_flow
 
-pub slice_bounds-open_rows-end-4 : goal.slice_bounds-open_rows-end-4
-slice_bounds-open_rows-end-4 c = sym (length-take-le _ _ c.requires.opens.for_flow)
+pub slice_bounds-open_rows-end-3 : goal.slice_bounds-open_rows-end-3
+slice_bounds-open_rows-end-3 c = sym (length-take-le _ _ c.requires.opens.for_flow)
 
 pub open_rows-requires : goal.open_rows-requires
 open_rows-requires c =

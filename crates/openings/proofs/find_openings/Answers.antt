@@ -28,7 +28,7 @@ returns-in-Err c =
     let whole : (l : LeftOpenings) → l ≡ answered → (l ≡ answered) × (l.openings.answer.refusal ≡ 0 → Meets bounded.table (left l.openings.answer l.flow l.side l.work) × HelpsExactly bounded.table) = λ l e. let given = c.args in (e, finding_best bounded given.stamp given.flow.now given.side.now given.work.now given.sources.now given.sinks.now given.places.now l e) in
     let given = c.args in
     let the_facts = whole _
-    (refused_finding bounded given.stamp given.flow.now given.side.now given.work.now given.sources.now given.sinks.now given.places.now _ checked _ _ c.in-Err.is c.no_openings.result c.no_openings.ensures) in record {
+    (refused_finding bounded given.stamp given.flow.now given.side.now given.work.now given.sources.now given.sinks.now given.places.now _ checked _ _ c.in-Err.is c.into.result c.into.ensures) in record {
       exact = the_facts.0;
       best = the_facts.1;
     }

@@ -16,7 +16,7 @@ pub returns-in-Err : goal.returns-in-Err
 returns-in-Err c =
     let table : BoundedTable = bounded_in c.args.bounded.now in
     let given = c.args in
-    refused_reading table given.stamp given.answer given.flow.now given.side.now given.place _ c.reading_verdict.ensures _ _ c.in-Err.is c.unread.result c.unread.ensures
+    refused_reading table given.stamp given.answer given.flow.now given.side.now given.place _ c.reading_verdict.ensures _ _ c.in-Err.is c.into.result c.into.ensures
 
 pub returns-in-Ok : goal.returns-in-Ok
 returns-in-Ok c =

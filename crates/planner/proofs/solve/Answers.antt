@@ -23,7 +23,7 @@ returns-in-Err c =
     let found : c.check.result ≡ bounded_verdict table (length c.args.flow.now) (length c.args.side.now) (length c.args.work.now) = c.check.ensures ∙ ap (bounded_check table) c.has_room-room.ensures in
     let whole : (l : SignedLeft) → Solves table c.args.stamp c.args.flow.now c.args.side.now c.args.work.now l → Solves table c.args.stamp c.args.flow.now c.args.side.now c.args.work.now l × (l.answer.refusal ≡ 0 → SolvesWell table l) = λ l so. (so, solves_well table c.args.stamp c.args.flow.now c.args.side.now c.args.work.now l so) in
     let the_facts = whole _
-    (solves_refused table c.args.stamp c.args.flow.now c.args.side.now c.args.work.now found c.in-Err.is c.refused.ensures) in record {
+    (solves_refused table c.args.stamp c.args.flow.now c.args.side.now c.args.work.now found c.in-Err.is c.into.ensures) in record {
       exact = the_facts.0;
       best = the_facts.1;
     }

@@ -3,11 +3,13 @@ use mathlib.Core.Path.{ap, ◌∙◌}
 use Rattle.rows.specs.Row.{cleared}
 use Rattle.minimums.specs.BoundedTable.{bounded_of, bounded_in}
 use Rattle.planner.proofs.Answers.{bounding_none, bounding_found}
+use Rattle.table.specs.declared.Refusal.{Refusal}
+use Rattle.planner.specs.Solving.{signed_refusal}
 use Rattle.planner.proofs.solve_some.Goals as goal
 
 pub returns-in-Impossible : goal.returns-in-Impossible
 returns-in-Impossible c =
-    bounding_none (bounded_in c.args.bounded.now) c.args.stamp c.args.flow.now c.args.side.now c.args.work.now c.solve_bounded.ensures c.in-Impossible.is c.refused.ensures
+    bounding_none (bounded_in c.args.bounded.now) c.args.stamp c.args.flow.now c.args.side.now c.args.work.now c.solve_bounded.ensures c.in-Impossible.is (c.into.ensures ∙ ap (λ (r : Refusal). signed_refusal r.name r.place) c.at.ensures)
 
 pub returns-in-Value : goal.returns-in-Value
 returns-in-Value c =

@@ -21,7 +21,7 @@ returns-in-Err c =
     let found : c.plain_check.result ≡ asking_verdict bounded (length c.args.work.now) = c.plain_check.ensures ∙ ap (plain_check bounded) c.has_work-roomy.ensures in
     let whole : (l : RoomLeft) → l ≡ asking bounded c.args.stamp c.args.q c.args.work.now → (l ≡ asking bounded c.args.stamp c.args.q c.args.work.now) × (l.answer.refusal ≡ 0 → Says bounded.table c.args.q l.answer) = λ l e. (e, asking_says bounded c.args.stamp c.args.q c.args.work.now l e) in
     let given = c.args in
-    let the_facts = whole _ (refused_asking bounded given.stamp given.q given.work.now _ found _ _ c.in-Err.is c.refused.result c.refused.ensures) in record {
+    let the_facts = whole _ (refused_asking bounded given.stamp given.q given.work.now _ found _ _ c.in-Err.is c.into.result c.into.ensures) in record {
       exact = the_facts.0;
       says = the_facts.1;
     }

@@ -28,7 +28,7 @@ returns-in-Err c =
     let whole : (l : LeftReduced) → l ≡ answered → (l ≡ answered) × (l.reduced.answer.refusal ≡ 0 → Reduces bounded.table l) = λ l e. (e, reducing_reduces bounded c.args.stamp c.args.flow.now c.args.side.now c.args.work.now small l e) in
     let given = c.args in
     let the_facts = whole _
-    (refused_reducing bounded given.stamp given.flow.now given.side.now given.work.now small _ checked _ _ c.in-Err.is c.not_reduced.result c.not_reduced.ensures) in record {
+    (refused_reducing bounded given.stamp given.flow.now given.side.now given.work.now small _ checked _ _ c.in-Err.is c.into.result c.into.ensures) in record {
       exact = the_facts.0;
       means = the_facts.1;
     }

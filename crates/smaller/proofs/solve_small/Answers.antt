@@ -4,14 +4,14 @@ use Rattle.table.specs.Table.{Table, table_of}
 use Rattle.smaller.proofs.Living.{solved_found}
 use Rattle.smaller.proofs.solve_small.Goals as goal
 
-pub slice_bounds-solve_table-end : goal.slice_bounds-solve_table-end
-slice_bounds-solve_table-end c = sym (length-take-le _ _ c.requires.arcs_in_bounds.0)
+pub slice_bounds-small-end : goal.slice_bounds-small-end
+slice_bounds-small-end c = sym (length-take-le _ _ c.requires.arcs_in_bounds.0)
 
-pub slice_bounds-solve_table-end-2 : goal.slice_bounds-solve_table-end-2
-slice_bounds-solve_table-end-2 c = sym (length-take-le _ _ c.requires.arcs_in_bounds.1)
+pub slice_bounds-small-end-2 : goal.slice_bounds-small-end-2
+slice_bounds-small-end-2 c = sym (length-take-le _ _ c.requires.arcs_in_bounds.1)
 
-pub slice_bounds-solve_table-end-3 : goal.slice_bounds-solve_table-end-3
-slice_bounds-solve_table-end-3 c = sym (length-take-le _ _ c.requires.arcs_in_bounds.2)
+pub slice_bounds-small-end-3 : goal.slice_bounds-small-end-3
+slice_bounds-small-end-3 c = sym (length-take-le _ _ c.requires.arcs_in_bounds.2)
 
 pub solve_table-requires : goal.solve_table-requires
 solve_table-requires c =

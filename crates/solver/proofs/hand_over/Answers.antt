@@ -12,7 +12,7 @@ slice_bounds-store-end c = sym (length-take-le _ _ c.requires.flows_long.0)
 
 pub store-requires : goal.store-requires
 store-requires c =
-    omega (arith, length-take-le (length c.args.table.now.capacities.now) c.args.flows.now c.requires.flows_long.0)
+    omega (arith, length-take-le (length c.args.table.now.tails.now) c.args.flows.now c.requires.flows_long.0)
 
 pub slice_bounds-store_marks-end : goal.slice_bounds-store_marks-end
 slice_bounds-store_marks-end c = sym (length-take-le _ _ c.requires.flows_long.1)
