@@ -4,33 +4,33 @@
 ghost use Rattle.std.specs.Prelude.{◌≡◌, ◌++◌, ◌+◌, ◌*◌, ◌/◌, ◌^◌, ◌≤◌, ◌<◌, length, take, drop};
 ghost use Rattle.little.specs.Little.{bytes_of_all};
 ghost use Rattle.table.specs.Table.{table_of, table_in};
-ghost use Rattle.table.specs.Checks.{sizes_of};
+ghost use Rattle.table.specs.Checks.{no_refusal, sizes_of};
 ghost use Rattle.table.specs.Refusals.{number_of};
-ghost use Rattle.table.specs.declared.Verdict.TheVariants.{Fine};
 ghost use Rattle.minimums.specs.BoundedTable.{bounded_of};
 ghost use Rattle.planner.specs.Reading.{reading};
 ghost use Rattle.wire.specs.Rows.{arc_table, without_minimums, flow_row, returned_of, has_byte_room};
 ghost use Rattle.wire.specs.Solve.{seven, serving_verdict, serving, served};
 ghost use Rattle.wire.specs.Place.{told, three, told_as, telling};
 
+use minimums::LentBounded;
 use planner::Reading;
 use solver::Answer;
 use table::{LentTable, Name, Refusal};
 
 // ---- what both calls share
 
-// The number returned of a refusal.
+// The number returned of a refusal's number and place.
 fn returned(refusal: u32, place: u32) -> u64
     ensures { result ≡ returned_of refusal place }
 {
     rows::wide(refusal) * 4294967296 + rows::wide(place)
 }
 
-// The number returned of a refusal's name.
-fn refused(name: Name, place: u32) -> u64
-    ensures { result ≡ returned_of (number_of name) place }
+// The number returned of a refusal.
+fn refused(refusal: Refusal) -> u64
+    ensures { result ≡ returned_of (number_of refusal.name) refusal.place }
 {
-    returned(table::number(name), place)
+    returned(refusal.name.number(), refusal.place)
 }
 
 // Whether byte rows of these lengths have room for m flows, n marks and a result of so many bytes.
@@ -91,7 +91,7 @@ fn serve_accepted(
     side: &mut [u8],
     res: &mut [u8],
 ) -> u64
-    requires { serving_verdict (table_in table.now) flow.old side.old res.old ≡ Fine }
+    requires { serving_verdict (table_in table.now) flow.old side.old res.old ≡ no_refusal }
     ensures { served result flow.new side.new res.new ≡ serving (table_in table.now) stamp flow.old side.old res.old }
 {
     let mut flows = [0u32; 4096];
@@ -123,38 +123,9 @@ fn serve_rows(
         res.len(),
     );
     match table::check(table, room) {
-        Err(refusal) => refused(name, place),
+        Err(refusal) => refused(refusal),
         Ok(()) => serve_accepted(table, stamp, flow, side, res),
     }
-}
-
-// The same, of the first m places of rows.
-fn serve_first(
-    table: &LentTable,
-    stamp: u32,
-    m: usize,
-    flow: &mut [u8],
-    side: &mut [u8],
-    res: &mut [u8],
-) -> u64
-    requires { (m ≤ length table.now.tails.now) × (m ≤ length table.now.heads.now) × (m ≤ length table.now.capacities.now) }
-    ensures { let table = table_of table.now.nodes table.now.source table.now.sink (take m table.now.tails.now) (take m table.now.heads.now) (take m table.now.capacities.now) in
-        served result flow.new side.new res.new ≡ serving table stamp flow.old side.old res.old }
-{
-    serve_rows(
-        TODO(
-            table.nodes,
-            table.source,
-            table.sink,
-            &table.tails[..m],
-            &table.heads[..m],
-            &table.capacities[..m],
-        ),
-        stamp,
-        flow,
-        side,
-        res,
-    )
 }
 
 // Solves the table of arc bytes, whose sizes are right.
@@ -168,7 +139,7 @@ fn serve_arcs(
     side: &mut [u8],
     res: &mut [u8],
 ) -> u64
-    requires { sizes_of n ((length arcs.now + 11) / 12) (length arcs.now / 12) (length arcs.now / 12) s t ≡ Fine }
+    requires { sizes_of n ((length arcs.now + 11) / 12) (length arcs.now / 12) (length arcs.now / 12) s t ≡ no_refusal }
     ensures { served result flow.new side.new res.new ≡ serving (arc_table n s t arcs.now) stamp flow.old side.old res.old }
 {
     let m = arcs.len() / 12;
@@ -178,14 +149,15 @@ fn serve_arcs(
     codec::get_column(arcs, 12, 0, &mut tails, m);
     codec::get_column(arcs, 12, 4, &mut heads, m);
     codec::get_column(arcs, 12, 8, &mut capacities, m);
-    serve_first(
-        TODO(n, s, t, &tails, &heads, &capacities),
-        stamp,
-        m,
-        flow,
-        side,
-        res,
-    )
+    let table = LentTable {
+        nodes: n,
+        source: s,
+        sink: t,
+        tails: &tails[..m],
+        heads: &heads[..m],
+        capacities: &capacities[..m],
+    };
+    serve_rows(&table, stamp, flow, side, res)
 }
 
 // Solves the table of arc bytes; or gives the first refusal, with nothing written.
@@ -203,7 +175,7 @@ pub fn solve_bytes(
 {
     let m = arcs.len() / 12;
     match table::sizes(n, (arcs.len() + 11) / 12, m, m, s, t) {
-        Err(refusal) => refused(name, place),
+        Err(refusal) => refused(refusal),
         Ok(()) => serve_arcs(n, s, t, stamp, arcs, flow, side, res),
     }
 }
@@ -235,39 +207,6 @@ fn tell(r: Reading, res: &mut [u8]) -> u64
     0
 }
 
-// Reads an answer at a place, of the first m places of rows.
-fn read_first(
-    bounded: &LentBounded,
-    stamp: u32,
-    m: usize,
-    answer: u32,
-    flow: &[u32],
-    side: &[u8],
-    place: u32,
-) -> Reading
-    requires { (m ≤ length bounded.now.table.tails.now) × (m ≤ length bounded.now.table.heads.now) × (m ≤ length bounded.now.table.capacities.now) × (m ≤ length bounded.now.minimums.now)
-        × (m ≤ length flow.now) }
-    ensures { let table = bounded_of bounded.now.table.nodes bounded.now.table.source bounded.now.table.sink (take m bounded.now.table.tails.now) (take m bounded.now.table.heads.now) (take m bounded.now.table.capacities.now) (take m bounded.now.minimums.now) in
-        result ≡ reading table stamp answer (take m flow.now) side.now place }
-{
-    planner::read_place(
-        TODO(
-            bounded.table.nodes,
-            bounded.table.source,
-            bounded.table.sink,
-            &bounded.table.tails[..m],
-            &bounded.table.heads[..m],
-            &bounded.table.capacities[..m],
-            &bounded.minimums[..m],
-        ),
-        stamp,
-        answer,
-        &flow[..m],
-        side,
-        place,
-    )
-}
-
 // Reads an answer of flow bytes at a place of the table of arc bytes, whose sizes are right.
 fn read_arcs(
     n: u32,
@@ -280,7 +219,7 @@ fn read_arcs(
     side: &[u8],
     place: u32,
 ) -> Reading
-    requires t_value { sizes_of n ((length arcs.now + 11) / 12) (length arcs.now / 12) (length arcs.now / 12) s t ≡ Fine }
+    requires t_value { sizes_of n ((length arcs.now + 11) / 12) (length arcs.now / 12) (length arcs.now / 12) s t ≡ no_refusal }
     requires arcs_in_bounds { 4 * (length arcs.now / 12) ≤ length flow.now }
     ensures { result
         ≡ reading (without_minimums (arc_table n s t arcs.now)) stamp answer (flow_row (length arcs.now / 12) flow.now) side.now place }
@@ -295,15 +234,18 @@ fn read_arcs(
     codec::get_column(arcs, 12, 4, &mut heads, m);
     codec::get_column(arcs, 12, 8, &mut capacities, m);
     codec::get_column(flow, 4, 0, &mut flows, m);
-    read_first(
-        TODO(n, s, t, &tails, &heads, &capacities, &minimums),
-        stamp,
-        m,
-        answer,
-        &flows,
-        side,
-        place,
-    )
+    let bounded = LentBounded {
+        table: LentTable {
+            nodes: n,
+            source: s,
+            sink: t,
+            tails: &tails[..m],
+            heads: &heads[..m],
+            capacities: &capacities[..m],
+        },
+        minimums: &minimums[..m],
+    };
+    planner::read_place(&bounded, stamp, answer, &flows[..m], side, place)
 }
 
 // Reads an answer at a place of the table of arc bytes, whose sizes are right, and writes it as bytes.
@@ -319,12 +261,12 @@ fn tell_arcs(
     place: u32,
     res: &mut [u8],
 ) -> u64
-    requires { sizes_of n ((length arcs.now + 11) / 12) (length arcs.now / 12) (length arcs.now / 12) s t ≡ Fine }
+    requires { sizes_of n ((length arcs.now + 11) / 12) (length arcs.now / 12) (length arcs.now / 12) s t ≡ no_refusal }
     ensures { told result res.new ≡ telling (arc_table n s t arcs.now) stamp answer flow.now side.now place res.old }
 {
     let m = arcs.len() / 12;
     if !has_byte_room(24, n, m, flow.len(), side.len(), res.len()) {
-        return refused(Name::Room, 0);
+        return refused(Name::Room.at(0));
     }
     let found = read_arcs(n, s, t, stamp, arcs, answer, flow, side, place);
     tell(found, res)
@@ -347,7 +289,7 @@ pub fn read_bytes(
 {
     let m = arcs.len() / 12;
     match table::sizes(n, (arcs.len() + 11) / 12, m, m, s, t) {
-        Err(refusal) => refused(name, at),
+        Err(refusal) => refused(refusal),
         Ok(()) => tell_arcs(n, s, t, stamp, arcs, answer, flow, side, place, res),
     }
 }

@@ -18,16 +18,17 @@ use Rattle.solver.specs.Solving.{Left, left, refusal, solved}
 use Rattle.solver.proofs.Solved.{solved_flows, handed_over_lem}
 use Rattle.pieces.specs.Chains.{list_of}
 use Rattle.pieces.proofs.Lowest.{cond_true, cond_false}
-use Rattle.chains.specs.Listing.{Shown, shown, run_list, listing_as, listing_checked, handed_over}
+use Rattle.chains.specs.declared.Listed.{Listed}
+use Rattle.chains.specs.Listing.{unlisted, Shown, shown, shown_by, run_list, listing_as, listing_checked, handed_over}
 use Rattle.table.specs.Checks.{no_refusal, refused}
 
 module _ (answer : Answer) (n m : ℕ) (flows marks numbers flow side work list : List ℕ) (count : ℕ) (counted : count ≡ length numbers) where
   -- The list is longer than its row,
-  pub too_long : length list < count → (a : Answer) → a ≡ refusal Room 0
-      → shown (left a flow side work) 0 list ≡ handed_over answer n m flows marks numbers flow side work list
+  pub too_long : length list < count → (r : Listed) → r ≡ unlisted Room 0
+      → shown_by r flow side work list ≡ handed_over answer n m flows marks numbers flow side work list
   unfolding handed_over
-  too_long l a e =
-      ap (λ (x : Answer). shown (left x flow side work) 0 list) e
+  too_long l r e =
+      ap (λ (x : Listed). shown_by x flow side work list) e
       ∙ sym (cond_true _ _ _ (lt-ltb (length list) (length numbers) (omega arith)))
 
   -- or is not.

@@ -21,15 +21,16 @@ use Rattle.solver.specs.declared.Answer.{Answer}
 use Rattle.solver.specs.Solving.{left, refusal, answer_with, solved, solving}
 use Rattle.solver.proofs.Solved.{Roomy, room_roomy, fine_solving, solved_flows, solved_meets}
 use Rattle.pieces.proofs.Whole.{run_chains, run_few, run_short}
-use Rattle.chains.specs.Listing.{Shown, shown, run_list, room_verdict, listing_verdict, listing_as, listing_checked, listing, Shows}
+use Rattle.chains.specs.declared.Listed.{Listed}
+use Rattle.chains.specs.Listing.{unlisted, Shown, shown, shown_by, run_list, room_verdict, listing_verdict, listing_as, listing_checked, listing, Shows}
 use Rattle.verdicts.specs.Plain.{plain_verdict}
 
 module _ (b : BoundedTable) (stamp : ℕ) (flow side work list : List ℕ) (v : Verdict) (found : v ≡ plain_verdict b (length flow) (length side) (length work)) where
   -- Where the first checks refuse, listing gives that refusal and leaves the rows.
-  pub refused_listing : (name : Name) (place : ℕ) → v ≡ refused name place → (r : Answer) → r ≡ refusal name place
-      → shown (left r flow side work) 0 list ≡ listing b stamp flow side work list
+  pub refused_listing : (name : Name) (place : ℕ) → v ≡ refused name place → (r : Listed) → r ≡ unlisted name place
+      → shown_by r flow side work list ≡ listing b stamp flow side work list
   unfolding listing listing_verdict listing_as or_else
-  refused_listing name place e r f = rw (← found, e) (ap (λ (a : Answer). shown (left a flow side work) 0 list) f)
+  refused_listing name place e r f = rw (← found, e) (ap (λ (x : Listed). shown_by x flow side work list) f)
 
   -- Where they do not, the list's ROOM decides;
   pub fine_listing : v ≡ no_refusal → (l : Shown) → l ≡ listing_checked b.table stamp flow side work list

@@ -4,6 +4,7 @@ use Rattle.rows.specs.Lent.{LentRow}
 use Rattle.rows.specs.Row.{cleared}
 use Rattle.table.specs.Table.{Table, arcs, network_of}
 use Rattle.table.specs.Checks.{refuse_if, or_else, no_refusal, Verdict}
+use Rattle.table.specs.declared.Name.{Name}
 use Rattle.table.specs.declared.Name.TheVariants.{Room}
 use Rattle.arcs.specs.Work.{work_need}
 use Rattle.run.specs.Phase.{run}
@@ -24,6 +25,10 @@ pub record Shown : Type 0 where
 -- The same, from its parts.
 abbrev pub shown : Left → ℕ → List ℕ → Shown
 shown solving filled list = record { solving = solving; filled = filled; list = list }
+
+-- The result of a refusal: solving's, and no number filled.
+abbrev pub unlisted : Name → ℕ → Listed
+unlisted name place = record { answer = refusal name place; filled = 0 }
 
 -- The same, from what was returned and the four rows.
 abbrev pub shown_by : Listed → (flow side work list : List ℕ) → Shown

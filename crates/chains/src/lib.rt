@@ -3,11 +3,11 @@
 
 ghost use Rattle.std.specs.Prelude.{◌≡◌, ◌≤◌, length};
 ghost use Rattle.rows.specs.Row.{Node};
-ghost use Rattle.solver.specs.Solving.{refusal, GivenRoom};
+ghost use Rattle.solver.specs.Solving.{GivenRoom};
 ghost use Rattle.table.specs.Table.{table_in};
 ghost use Rattle.table.specs.Accepted.{ArcEnds, Accepted};
 ghost use Rattle.minimums.specs.BoundedTable.{bounded_in};
-ghost use Rattle.chains.specs.Listing.{listing_checked, listing, Shows, handed_with, shown_by};
+ghost use Rattle.chains.specs.Listing.{unlisted, listing_checked, listing, Shows, handed_with, shown_by};
 
 use minimums::LentBounded;
 use solver::Answer;
@@ -23,7 +23,7 @@ pub struct Listed {
 
 // The answer of a refusal: its number and place, other fields 0.
 impl From<Refusal> for Listed {
-    ghost from_gives = { λ r answer. answer ≡ record { answer = refusal r.name r.place; filled = 0 } };
+    ghost from_gives = { λ r answer. answer ≡ unlisted r.name r.place };
 
     fn from(refusal: Refusal) -> Listed {
         Listed {
