@@ -19,13 +19,14 @@ ghost use Rattle.openings.specs.Finding.{finding, left_openings};
 ghost use Rattle.shorter.specs.Shorter.{shorter_of, left_part, copied};
 ghost use Rattle.keeping.specs.SmallRows.{small_rows};
 ghost use Rattle.smaller.specs.Reducing.{left_reduced, reducing, Reduces};
-ghost use Rattle.days.specs.Days.{lent_days};
+ghost use Rattle.days.specs.Days.{days_of};
 ghost use Rattle.days.specs.Month.{month_left, month};
 ghost use Rattle.days.specs.Promises.{EachDay};
 
 use asking::Room;
 use chains::Listed;
-use days::Month;
+use days::{LentDays, Month};
+use minimums::LentBounded;
 use openings::Openings;
 use plan::Checked;
 use planner::{Reading, Signed};
@@ -33,6 +34,7 @@ use shorter::Part;
 use smaller::Reduced;
 use solution::{ReadBack, Written};
 use solver::Answer;
+use table::LentTable;
 
 // `planner::solve`.
 #[unsafe(no_mangle)]
@@ -53,9 +55,18 @@ pub extern "C" fn jorrabide_solve(
         Solves table stamp flow.old side.old work.old (signed_left result flow.new side.new work.new) }
     ensures best { result.refusal ≡ 0 → SolvesWell (lent_bounded n s t tails heads capacities minimums) (signed_left result flow.new side.new work.new) }
 {
-    planner::solve(
-        n, s, t, stamp, tails, heads, capacities, minimums, flow, side, work,
-    )
+    let bounded = LentBounded {
+        table: LentTable {
+            nodes: n,
+            source: s,
+            sink: t,
+            tails,
+            heads,
+            capacities,
+        },
+        minimums,
+    };
+    planner::solve(&bounded, stamp, flow, side, work)
 }
 
 // `planner::read_place`.
@@ -76,9 +87,18 @@ pub extern "C" fn jorrabide_read_place(
 ) -> Reading
     ensures { result ≡ reading (lent_bounded n s t tails heads capacities minimums) stamp answer flow.now side.now place }
 {
-    planner::read_place(
-        n, s, t, stamp, tails, heads, capacities, minimums, answer, flow, side, place,
-    )
+    let bounded = LentBounded {
+        table: LentTable {
+            nodes: n,
+            source: s,
+            sink: t,
+            tails,
+            heads,
+            capacities,
+        },
+        minimums,
+    };
+    planner::read_place(&bounded, stamp, answer, flow, side, place)
 }
 
 // `opening::open`.
@@ -104,9 +124,18 @@ pub extern "C" fn jorrabide_open(
         result.refusal ≡ 0 → Reopens table (opened table place capacity) flow.old (left result flow.new side.new work.new) }
     ensures notmax { result.refusal ≡ 23 → MaximumFlow (lent_table n s t tails heads capacities) flow.old → ⊥ }
 {
-    opening::open(
-        n, s, t, stamp, tails, heads, capacities, minimums, place, capacity, flow, side, work,
-    )
+    let bounded = LentBounded {
+        table: LentTable {
+            nodes: n,
+            source: s,
+            sink: t,
+            tails,
+            heads,
+            capacities,
+        },
+        minimums,
+    };
+    opening::open(&bounded, stamp, place, capacity, flow, side, work)
 }
 
 // `solution::write`.
@@ -125,9 +154,18 @@ pub extern "C" fn jorrabide_write_solution(
 ) -> Written
     ensures { leftWritten result text.new ≡ writing (lent_bounded n s t tails heads capacities minimums) value flow.now text.old }
 {
-    solution::write(
-        n, s, t, tails, heads, capacities, minimums, value, flow, text,
-    )
+    let bounded = LentBounded {
+        table: LentTable {
+            nodes: n,
+            source: s,
+            sink: t,
+            tails,
+            heads,
+            capacities,
+        },
+        minimums,
+    };
+    solution::write(&bounded, value, flow, text)
 }
 
 // `solution::read`.
@@ -145,7 +183,18 @@ pub extern "C" fn jorrabide_read_solution(
 ) -> ReadBack
     ensures { leftRead result flow.new ≡ readingBack (lent_bounded n s t tails heads capacities minimums) text.now flow.old }
 {
-    solution::read(n, s, t, tails, heads, capacities, minimums, text, flow)
+    let bounded = LentBounded {
+        table: LentTable {
+            nodes: n,
+            source: s,
+            sink: t,
+            tails,
+            heads,
+            capacities,
+        },
+        minimums,
+    };
+    solution::read(&bounded, text, flow)
 }
 
 // `plan::check_plan`.
@@ -163,7 +212,18 @@ pub extern "C" fn jorrabide_check_plan(
 ) -> Checked
     ensures { Checks (lent_bounded n s t tails heads capacities minimums) text.now side.now result }
 {
-    plan::check_plan(n, s, t, tails, heads, capacities, minimums, text, side)
+    let bounded = LentBounded {
+        table: LentTable {
+            nodes: n,
+            source: s,
+            sink: t,
+            tails,
+            heads,
+            capacities,
+        },
+        minimums,
+    };
+    plan::check_plan(&bounded, text, side)
 }
 
 // `chains::list_chains`.
@@ -186,9 +246,18 @@ pub extern "C" fn jorrabide_list_chains(
         shown_by result flow.new side.new work.new list.new ≡ listing table stamp flow.old side.old work.old list.old }
     ensures shows { result.answer.refusal ≡ 0 → Shows (lent_table n s t tails heads capacities) (shown_by result flow.new side.new work.new list.new) }
 {
-    chains::list_chains(
-        n, s, t, stamp, tails, heads, capacities, minimums, flow, side, work, list,
-    )
+    let bounded = LentBounded {
+        table: LentTable {
+            nodes: n,
+            source: s,
+            sink: t,
+            tails,
+            heads,
+            capacities,
+        },
+        minimums,
+    };
+    chains::list_chains(&bounded, stamp, flow, side, work, list)
 }
 
 // `room::has_room_for`.
@@ -208,7 +277,18 @@ pub extern "C" fn jorrabide_has_room_for(
     ensures exact { room_left result work.new ≡ asking (lent_bounded n s t tails heads capacities minimums) stamp q work.old }
     ensures says { result.refusal ≡ 0 → Says (lent_table n s t tails heads capacities) q result }
 {
-    room::has_room_for(n, s, t, stamp, tails, heads, capacities, minimums, q, work)
+    let bounded = LentBounded {
+        table: LentTable {
+            nodes: n,
+            source: s,
+            sink: t,
+            tails,
+            heads,
+            capacities,
+        },
+        minimums,
+    };
+    room::has_room_for(&bounded, stamp, q, work)
 }
 
 // `openings::find_openings`.
@@ -235,10 +315,18 @@ pub extern "C" fn jorrabide_find_openings(
     ensures best { let table = lent_table n s t tails heads capacities in
         result.answer.refusal ≡ 0 → Meets table (left result.answer flow.new side.new work.new) × HelpsExactly table }
 {
-    openings::find_openings(
-        n, s, t, stamp, tails, heads, capacities, minimums, flow, side, work, sources, sinks,
-        places,
-    )
+    let bounded = LentBounded {
+        table: LentTable {
+            nodes: n,
+            source: s,
+            sink: t,
+            tails,
+            heads,
+            capacities,
+        },
+        minimums,
+    };
+    openings::find_openings(&bounded, stamp, flow, side, work, sources, sinks, places)
 }
 
 // `shorter::copy_shorter`.
@@ -285,15 +373,20 @@ pub extern "C" fn jorrabide_reduce(
         let table = lent_table n s t tails heads capacities in
         result.answer.refusal ≡ 0 → Reduces table (left_reduced result flow.new side.new work.new small_new) }
 {
-    smaller::reduce(
-        n,
-        s,
-        t,
-        stamp,
-        tails,
-        heads,
-        capacities,
+    let bounded = LentBounded {
+        table: LentTable {
+            nodes: n,
+            source: s,
+            sink: t,
+            tails,
+            heads,
+            capacities,
+        },
         minimums,
+    };
+    smaller::reduce(
+        &bounded,
+        stamp,
         flow,
         side,
         work,
@@ -322,14 +415,22 @@ pub extern "C" fn jorrabide_solve_month(
     work: &mut [u32],
     answers: &mut [u64],
 ) -> Month
-    ensures exact { let days = lent_days starts nodes sources sinks stamps tails heads capacities minimums in
+    ensures exact { let days = days_of starts.now nodes.now sources.now sinks.now stamps.now tails.now heads.now capacities.now minimums.now in
         month_left result flow.new side.new work.new answers.new ≡ month days flow.old side.old work.old answers.old }
-    ensures each { let days = lent_days starts nodes sources sinks stamps tails heads capacities minimums in
+    ensures each { let days = days_of starts.now nodes.now sources.now sinks.now stamps.now tails.now heads.now capacities.now minimums.now in
         result.refusal ≡ 0
         → EachDay days flow.old side.old work.old answers.old flow.new side.new work.new answers.new result }
 {
-    month::solve_month(
-        starts, nodes, sources, sinks, stamps, tails, heads, capacities, minimums, flow, side,
-        work, answers,
-    )
+    let days = LentDays {
+        starts,
+        nodes,
+        sources,
+        sinks,
+        stamps,
+        tails,
+        heads,
+        capacities,
+        minimums,
+    };
+    month::solve_month(&days, flow, side, work, answers)
 }

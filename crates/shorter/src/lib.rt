@@ -32,7 +32,7 @@ pub fn shorter<'a>(first: &'a [u32], second: &'a [u32], in_first: u32, in_second
 
 // What copying that part returns: a refusal's number and place, or 0 and how many numbers were copied.
 #[repr(C)]
-#[derive(Clone, Copy)]
+#[derive(Clone, Copy, Debug, PartialEq, Eq)]
 pub struct Part {
     pub refusal: u32,
     pub place: u32,
@@ -46,7 +46,7 @@ fn copy_part(numbers: &[u32], row: &mut [u32]) -> Part
 {
     if row.len() < numbers.len() {
         return Part {
-            refusal: table::number(Name::Room),
+            refusal: Name::Room.number(),
             place: 0,
             filled: 0,
         };
