@@ -4,7 +4,6 @@
 ghost use Rattle.std.specs.Prelude.{◌≡◌, ℕ, ◌+◌, ◌≤◌, ◌<◌, length, get_or};
 ghost use Rattle.rows.specs.Row.{part};
 ghost use Rattle.parts.specs.Placed.{placed};
-ghost use Rattle.table.specs.Checks.{differ};
 ghost use Rattle.minimums.specs.BoundedTable.{bounded_of, bounded_in};
 ghost use Rattle.solver.specs.Solving.{left};
 ghost use Rattle.tally.specs.Sums.{no_tally};
@@ -219,30 +218,23 @@ fn has_month_room(k: usize, m: usize, flow: usize, side: usize, answers: usize) 
     9 * k <= answers
 }
 
-// Are the three lengths not all the same?
-fn do_differ(one: usize, two: usize, three: usize) -> bool
-    ensures { result ≡ differ one two three }
-{
-    one != two || one != three
-}
-
 // Do the lengths of either set of rows differ?
 fn do_rows_differ(days: &LentDays) -> bool
     ensures { result ≡ rows_differ (length days.now.starts.now) (length days.now.nodes.now) (length days.now.sources.now) (length days.now.sinks.now) (length days.now.stamps.now)
         (length days.now.tails.now) (length days.now.heads.now) (length days.now.capacities.now) (length days.now.minimums.now) }
 {
     let m = days.capacities.len();
-    if do_differ(days.tails.len(), days.heads.len(), m) {
+    if table::do_differ(days.tails.len(), days.heads.len(), m) {
         return true;
     }
     if m != days.minimums.len() {
         return true;
     }
     let k = days.starts.len();
-    if do_differ(k, days.nodes.len(), days.sources.len()) {
+    if table::do_differ(k, days.nodes.len(), days.sources.len()) {
         return true;
     }
-    do_differ(k, days.sinks.len(), days.stamps.len())
+    table::do_differ(k, days.sinks.len(), days.stamps.len())
 }
 
 // The first refusal of the whole call, if any, with rows of these lengths lent.
