@@ -13,11 +13,11 @@ returns-then-tail-i c n s t =
     let args = c.args in
     look_ahead (table_of n s t args.tails.now args.heads.now args.capacities.now) args.flow.now args.i args.k _ c.if-tail-i.true c.note.ensures
 
-pub note-requires-2 : goal.note-requires-2
-note-requires-2 c =
+pub note-requires-else-tail-i : goal.note-requires-else-tail-i
+note-requires-else-tail-i c =
     omega (arith, c.requires.count_in_bounds, c.requires.arc_rows.0.ends.tail_node c.args.k (omega (arith, c.requires.arc_rows.2, c.requires.arc_rows.0.capacities_long)))
 
-pub returns : goal.returns
-returns c n s t =
+pub returns-else-tail-i : goal.returns-else-tail-i
+returns-else-tail-i c n s t =
     let args = c.args in
-    look_behind (table_of n s t args.tails.now args.heads.now args.capacities.now) args.flow.now args.i args.k _ c.if-tail-i.false c.note-2.ensures
+    look_behind (table_of n s t args.tails.now args.heads.now args.capacities.now) args.flow.now args.i args.k _ c.if-tail-i.false c.note-else-tail-i.ensures
