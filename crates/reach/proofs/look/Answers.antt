@@ -1,21 +1,12 @@
 -- `look` meets its contract: the arc away from its tail, or from its head.
-use native.Mathlib.Omega.{arith}
 use Rattle.table.specs.Table.{table_of}
 use Rattle.reach.proofs.Visiting.{look_ahead, look_behind}
 use Rattle.reach.proofs.look.Goals as goal
-
-pub note-requires : goal.note-requires
-note-requires c =
-    omega (arith, c.requires.count_in_bounds, c.requires.arc_rows.0.ends.head_node c.args.k (omega (arith, c.requires.arc_rows.2, c.requires.arc_rows.0.capacities_long)))
 
 pub returns-then-tail-i : goal.returns-then-tail-i
 returns-then-tail-i c n s t =
     let args = c.args in
     look_ahead (table_of n s t args.tails.now args.heads.now args.capacities.now) args.flow.now args.i args.k _ c.if-tail-i.true c.note.ensures
-
-pub note-requires-else-tail-i : goal.note-requires-else-tail-i
-note-requires-else-tail-i c =
-    omega (arith, c.requires.count_in_bounds, c.requires.arc_rows.0.ends.tail_node c.args.k (omega (arith, c.requires.arc_rows.2, c.requires.arc_rows.0.capacities_long)))
 
 pub returns-else-tail-i : goal.returns-else-tail-i
 returns-else-tail-i c n s t =

@@ -1,9 +1,9 @@
 -- `mark_all` meets its contract: each marked node is noted or done with, and unmarked nodes twice and the nodes noted fall.
 use Prim.Native.Nat.{◌-◌}
-use mathlib.Core.Path.{◌≡◌, refl, sym, ap, ◌∙◌, subst⁻¹}
+use mathlib.Core.Path.{◌≡◌, refl, ap, ◌∙◌, subst⁻¹}
 use native.Mathlib.Omega.{arith}
 use borrow.Author.Rules.{rules}
-use lib.ListN.{length, length-set, replicate}
+use lib.ListN.{length, replicate}
 use Rattle.rows.specs.Row.{at_place}
 use Rattle.table.specs.Table.{Table, table_of}
 use Rattle.arcs.specs.Residual.{list, Places}
@@ -13,12 +13,6 @@ use Rattle.reach.specs.Visits.{front}
 use Rattle.reach.proofs.Marking.{mark}
 use Rattle.reach.proofs.Visiting.{Walkable, rows_walkable, rows_among, visit_start, next_node, visit_turn, visited_side}
 use Rattle.reach.proofs.mark_all.Goals as goal
-
-pub only-requires : goal.only-requires
-only-requires c = omega (arith, c.requires.arc_rows.2, c.requires.side_len.0)
-
-pub bounds-todo-0 : goal.bounds-todo-0
-bounds-todo-0 c = omega (arith, c.requires.arc_rows.2, c.requires.side_len.1)
 
 pub loop-count-init : goal.loop-count-init
 loop-count-init c = (
@@ -84,12 +78,6 @@ loop-count-preserved c =
           (front c.visit-count.new.side c.visit-count.new.todo c.visit-count.result) (c.visit-count.ensures a.n a.s k)
           ).0,
     )
-
-pub shape_of-todo : goal.shape_of-todo
-shape_of-todo c = c.loop-count.invariant.0 ∙ simp length-set
-
-pub shape_of-side : goal.shape_of-side
-shape_of-side c = (c.loop-count.invariant.1 0).so.long ∙ sym c.requires.side_len.0
 
 pub returns : goal.returns
 returns c t =

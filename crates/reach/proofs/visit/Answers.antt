@@ -1,21 +1,13 @@
 -- `visit` meets its contract. The loop's invariant: what was done so far is `look_to` over the first places of the list, with as many more noted as are fewer unmarked.
-use mathlib.Core.Path.{◌≡◌, refl}
-use lib.ListN.{length}
+use mathlib.Core.Path.{refl}
 use native.Mathlib.Omega.{arith}
 use Rattle.reach.specs.Visits.{look_to}
-use Rattle.reach.proofs.Visiting.{rows_among, moved_none, look_turn}
+use Rattle.reach.proofs.Visiting.{moved_none, look_turn}
 use Rattle.reach.proofs.visit.Goals as goal
 
 pub loop-k-init : goal.loop-k-init
 unfolding look_to
 loop-k-init c = (moved_none, λ n s t. refl)
-
-pub look-noted-requires : goal.look-noted-requires
-look-noted-requires c =
-    let moved = c.loop-k.invariant.0 in record {
-      arc_rows = (rows_among c.requires.arc_rows.0 moved.long, c.requires.arc_rows.1, c.requires.arc_rows.2 c.loop-k.k-index (omega arith));
-      count_in_bounds = omega (arith, c.requires.count_in_bounds, moved.together, moved.todo_long);
-    }
 
 pub loop-k-preserved : goal.loop-k-preserved
 loop-k-preserved c =
@@ -26,9 +18,3 @@ loop-k-preserved c =
       (turn 0 0 0 args.flow.now args.i args.list.now c.loop-k.k-index _ _ _ refl small inv.0 (inv.1 0 0 0) (c.look-noted.ensures 0 0 0)).1,
       λ n s t. (turn n s t args.flow.now args.i args.list.now c.loop-k.k-index _ _ _ refl small inv.0 (inv.1 n s t) (c.look-noted.ensures n s t)).0,
     )
-
-pub returns : goal.returns
-returns c n s t =
-    let inv = c.loop-k.invariant in
-    let all : c.loop-k.k-index ≡ length c.args.list.now = omega arith in
-    rw all at (inv.1 n s t)

@@ -1,9 +1,9 @@
 -- `start_labels` meets its contract. The invariant: the first i places hold the labels, the others as they were.
-use Rattle.rows.proofs.Rows.{fill_none, fill_place, fill_all}
+use Rattle.rows.proofs.Rows.{fill_none, fill_place}
 use native.Mathlib.Numerals.{add-one}
-use lib.ListN.{length, set}
+use lib.ListN.{set}
 use mathlib.Core.List.{List, []}
-use mathlib.Core.Path.{◌≡◌, ap, ◌∙◌}
+use mathlib.Core.Path.{ap, ◌∙◌}
 use Prim.Native.Nat.{ℕ}
 use native.Mathlib.Omega.{arith}
 use Rattle.start.proofs.start_labels.Goals as goal
@@ -15,9 +15,3 @@ pub loop-i-preserved : goal.loop-i-preserved
 loop-i-preserved c =
     ap (λ (l : List ℕ). set l c.loop-i.i c.start_label.result) c.loop-i.invariant
     ∙ fill_place _ c.loop-i.i _ c.args.labels.now (omega arith) (c.start_label.ensures [] [] [] ∙ rw add-one)
-
-pub returns : goal.returns
-returns c tails heads capacities =
-    let given = c.args in
-    let all : c.loop-i.i ≡ length given.labels.now = omega arith in
-    c.loop-i.invariant ∙ fill_all _ c.loop-i.i given.labels.now (omega arith) ∙ rw all
