@@ -23,16 +23,14 @@ fn give(
     requires { Node (length dist.old) i × Open none d (front dist.old todo.old count) }
     ensures { front dist.new todo.new result ≡ give_of none d may i (front dist.old todo.old count) }
 {
-    if !may {
-        return count;
-    }
     let p = (i - 1) as usize;
-    if dist[p] != none {
-        return count;
+    if may && dist[p] == none {
+        dist[p] = d;
+        todo[count] = i;
+        count + 1
+    } else {
+        count
     }
-    dist[p] = d;
-    todo[count] = i;
-    count + 1
 }
 
 // Looks at the arc at place k, which touches node j: its other end gets the distance d where the arc may be walked from there to j.
@@ -59,9 +57,10 @@ fn look(
     let f = flow[at];
     let tail = tails[at];
     if tail == j {
-        return give(minimums[at] < f, heads[at], d, none, todo, count, dist);
+        give(minimums[at] < f, heads[at], d, none, todo, count, dist)
+    } else {
+        give(f < capacities[at], tail, d, none, todo, count, dist)
     }
-    give(f < capacities[at], tail, d, none, todo, count, dist)
 }
 
 // Looks at every arc of node j's list, and answers how many nodes are noted then.
@@ -85,12 +84,10 @@ fn visit(
         front dist.new todo.new result ≡ look_to ways none d j list.now (length list.now) (front dist.old todo.old count) }
 {
     let mut noted = count;
-    let mut p = 0;
-    while p < list.len() {
+    for k in list {
         noted = look(
-            tails, heads, capacities, minimums, flow, j, list[p], d, none, todo, noted, dist,
+            tails, heads, capacities, minimums, flow, j, *k, d, none, todo, noted, dist,
         );
-        p += 1;
     }
     noted
 }
@@ -99,11 +96,7 @@ fn visit(
 pub fn reset(dist: &mut [u32], none: u32)
     ensures { dist.new ≡ replicate (length dist.old) none }
 {
-    let mut i = 0;
-    while i < dist.len() {
-        dist[i] = none;
-        i += 1;
-    }
+    dist.fill(none);
 }
 
 // The distance of every node to node t over residual arcs, or their number where t is not reached. A list of nodes still to be visited is kept, the nearer ones first, and each one's arcs are looked at once: O(n + m). The nodes' lists stand in the work row.

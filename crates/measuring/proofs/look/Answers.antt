@@ -10,9 +10,9 @@ pub returns-then-tail-j : goal.returns-then-tail-j
 returns-then-tail-j c =
     look_back c.requires.rows.0 c.args.none c.args.d c.args.j c.args.k _ c.if-tail-j.true c.give.ensures
 
-pub give-requires-2 : goal.give-requires-2
-give-requires-2 c = ((ends_within _ c.requires.rows.0 c.requires.rows.1 c.requires.rows.2).0, c.requires.fact)
+pub give-requires-else-tail-j : goal.give-requires-else-tail-j
+give-requires-else-tail-j c = ((ends_within _ c.requires.rows.0 c.requires.rows.1 c.requires.rows.2).0, c.requires.fact)
 
-pub returns : goal.returns
-returns c =
-    look_fore c.requires.rows.0 c.args.none c.args.d c.args.j c.args.k _ c.if-tail-j.false c.give-2.ensures
+pub returns-else-tail-j : goal.returns-else-tail-j
+returns-else-tail-j c =
+    look_fore c.requires.rows.0 c.args.none c.args.d c.args.j c.args.k _ c.if-tail-j.false c.give-else-tail-j.ensures
