@@ -15,6 +15,6 @@ loop-k-preserved c =
     let small = c.requires.arc_rows.2 c.loop-k.k-index (omega arith) in
     let turn = look_turn c.requires.arc_rows.0 in
     let args = c.args in (
-      (turn 0 0 0 args.flow.now args.i args.list.now c.loop-k.k-index _ _ _ refl small inv.0 (inv.1 0 0 0) (c.look-noted.ensures 0 0 0)).1,
-      λ n s t. (turn n s t args.flow.now args.i args.list.now c.loop-k.k-index _ _ _ refl small inv.0 (inv.1 n s t) (c.look-noted.ensures n s t)).0,
+      (turn 0 0 0 args.flow.now args.i args.list.now c.loop-k.k-index _ _ _ refl small inv.0 (inv.1 0 0 0) (c.look.ensures 0 0 0)).1,
+      λ n s t. (turn n s t args.flow.now args.i args.list.now c.loop-k.k-index _ _ _ refl small inv.0 (inv.1 n s t) (c.look.ensures n s t)).0,
     )
