@@ -7,29 +7,21 @@ ghost use Rattle.arcs.specs.Residual.{Places};
 ghost use Rattle.arcs.specs.Work.{InWork};
 ghost use Rattle.shortest.specs.Ways.{other_end};
 ghost use Rattle.shortest.specs.Distance.{distances};
-ghost use Rattle.measuring.specs.Visits.{may_into, front, give_of, look_to, Open};
+ghost use Rattle.measuring.specs.Visits.{may_into, give_of, look_to, Open};
+ghost use Rattle.measuring.specs.Noted.{front_of};
 ghost use Rattle.shortest.specs.Rows.{lent_ways, ends_of, Rows};
 
-// Gives node i the distance d and notes it to be visited, where the way from it is open and it has no distance yet; answers how many are noted.
-fn give(
-    may: bool,
-    i: u32,
-    d: u32,
-    none: u32,
-    todo: &mut [u32],
-    count: usize,
-    dist: &mut [u32],
-) -> usize
-    requires { Node (length dist.old) i × Open none d (front dist.old todo.old count) }
-    ensures { front dist.new todo.new result ≡ give_of none d may i (front dist.old todo.old count) }
+use reach::Noted;
+
+// Gives node i the distance d and notes it to be visited, where the way from it is open and it has no distance yet.
+fn give(may: bool, i: u32, d: u32, none: u32, noted: &mut Noted, dist: &mut [u32])
+    requires { Node (length dist.old) i × Open none d (front_of dist.old noted.old) }
+    ensures { front_of dist.new noted.new ≡ give_of none d may i (front_of dist.old noted.old) }
 {
     let p = (i - 1) as usize;
     if may && dist[p] == none {
         dist[p] = d;
-        todo[count] = i;
-        count + 1
-    } else {
-        count
+        noted.push(i);
     }
 }
 
@@ -44,26 +36,25 @@ fn look(
     k: u32,
     d: u32,
     none: u32,
-    todo: &mut [u32],
-    count: usize,
+    noted: &mut Noted,
     dist: &mut [u32],
-) -> usize
+)
     requires rows { Rows none tails.now heads.now capacities.now minimums.now flow.now × (length dist.old ≡ none) × (k < length capacities.now) }
-    requires fact { Open none d (front dist.old todo.old count) }
+    requires fact { Open none d (front_of dist.old noted.old) }
     ensures { let ways = lent_ways tails heads capacities minimums flow in
-        front dist.new todo.new result ≡ give_of none d (may_into ways j k) (other_end ways j k) (front dist.old todo.old count) }
+        front_of dist.new noted.new ≡ give_of none d (may_into ways j k) (other_end ways j k) (front_of dist.old noted.old) }
 {
     let at = k as usize;
     let f = flow[at];
     let tail = tails[at];
     if tail == j {
-        give(minimums[at] < f, heads[at], d, none, todo, count, dist)
+        give(minimums[at] < f, heads[at], d, none, noted, dist);
     } else {
-        give(f < capacities[at], tail, d, none, todo, count, dist)
+        give(f < capacities[at], tail, d, none, noted, dist);
     }
 }
 
-// Looks at every arc of node j's list, and answers how many nodes are noted then.
+// Looks at every arc of node j's list.
 fn visit(
     tails: &[u32],
     heads: &[u32],
@@ -74,22 +65,19 @@ fn visit(
     j: u32,
     d: u32,
     none: u32,
-    todo: &mut [u32],
-    count: usize,
+    noted: &mut Noted,
     dist: &mut [u32],
-) -> usize
+)
     requires rows { Rows none tails.now heads.now capacities.now minimums.now flow.now × (length dist.old ≡ none) }
-    requires places { Places (length capacities.now) list.now × Open none d (front dist.old todo.old count) }
+    requires places { Places (length capacities.now) list.now × Open none d (front_of dist.old noted.old) }
     ensures { let ways = lent_ways tails heads capacities minimums flow in
-        front dist.new todo.new result ≡ look_to ways none d j list.now (length list.now) (front dist.old todo.old count) }
+        front_of dist.new noted.new ≡ look_to ways none d j list.now (length list.now) (front_of dist.old noted.old) }
 {
-    let mut noted = count;
     for k in list {
-        noted = look(
-            tails, heads, capacities, minimums, flow, j, *k, d, none, todo, noted, dist,
+        look(
+            tails, heads, capacities, minimums, flow, j, *k, d, none, noted, dist,
         );
     }
-    noted
 }
 
 // No node has a distance.
@@ -119,13 +107,16 @@ pub fn measure(
 {
     reset(dist, none);
     dist[(t - 1) as usize] = 0;
-    todo[0] = t;
+    let mut noted = Noted {
+        row: todo,
+        count: 0,
+    };
+    noted.push(t);
     let mut at = 0;
-    let mut count = 1;
-    while at < count {
-        let j = todo[at];
+    while at < noted.count {
+        let j = noted.row[at];
         let d = dist[(j - 1) as usize] + 1;
-        count = visit(
+        visit(
             tails,
             heads,
             capacities,
@@ -135,8 +126,7 @@ pub fn measure(
             j,
             d,
             none,
-            todo,
-            count,
+            &mut noted,
             dist,
         );
         at += 1;
