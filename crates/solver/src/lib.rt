@@ -173,6 +173,6 @@ pub fn hand_over(
 {
     let nodes = n as usize;
     rows::store(flow, 0, &flows[..m]);
-    rows::store_marks(side, &marks[..nodes]);
+    rows::store(side, 0, &marks[..nodes]);
     rows::clear(work, work::work_need(n, m));
 }
