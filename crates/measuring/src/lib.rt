@@ -1,7 +1,7 @@
 // The distances to a node over residual arcs, measured by visits.
 #![tactic(auto)]
 
-ghost use Rattle.std.specs.Prelude.{◌+◌, ◌-◌, ◌≤◌, ◌<◌, ◌≡◌, length, replicate};
+ghost use Rattle.std.specs.Prelude.{◌≤◌, ◌<◌, ◌≡◌, length, replicate};
 ghost use Rattle.rows.specs.Row.{Node};
 ghost use Rattle.arcs.specs.Residual.{Places};
 ghost use Rattle.arcs.specs.Work.{InWork};
