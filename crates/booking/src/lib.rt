@@ -63,7 +63,7 @@ fn write_marks(side: &mut [u8], marks: &[u8], n: u32)
     ensures { side.new ≡ take n marks.now ++ drop n side.old }
 {
     let nodes = n as usize;
-    rows::store_marks(side, &marks[..nodes]);
+    rows::store(side, 0, &marks[..nodes]);
 }
 
 // Writes the seven numbers of a result.

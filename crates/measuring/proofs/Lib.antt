@@ -1,3 +1,2 @@
-pub mod Giving
 pub mod Visiting
 pub mod Lists

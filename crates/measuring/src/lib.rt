@@ -1,38 +1,28 @@
 // The distances to a node over residual arcs, measured by visits.
 #![tactic(auto)]
 
-ghost use Rattle.std.specs.Prelude.{◌+◌, ◌-◌, ◌≤◌, ◌<◌, ◌≡◌, length, replicate};
+ghost use Rattle.std.specs.Prelude.{◌≤◌, ◌<◌, ◌≡◌, length, replicate};
 ghost use Rattle.rows.specs.Row.{Node};
 ghost use Rattle.arcs.specs.Residual.{Places};
 ghost use Rattle.arcs.specs.Work.{InWork};
 ghost use Rattle.shortest.specs.Ways.{other_end};
 ghost use Rattle.shortest.specs.Distance.{distances};
-ghost use Rattle.measuring.specs.Visits.{may_into, front, give_of, look_to, Open};
+ghost use Rattle.measuring.specs.Visits.{may_into, give_of, look_to, Open};
+ghost use Rattle.measuring.specs.Noted.{front_of};
 ghost use Rattle.shortest.specs.Rows.{lent_ways, ends_of, Rows};
 
-// Gives node i the distance d and notes it to be visited, where the way from it is open and it has no distance yet; answers how many are noted.
-fn give(
-    may: bool,
-    i: u32,
-    d: u32,
-    none: u32,
-    todo: &mut [u32],
-    count: usize,
-    dist: &mut [u32],
-) -> usize
-    requires { Node (length dist.old) i × Open none d (front dist.old todo.old count) }
-    ensures { front dist.new todo.new result ≡ give_of none d may i (front dist.old todo.old count) }
+use reach::Noted;
+
+// Gives node i the distance d and notes it to be visited, where the way from it is open and it has no distance yet.
+fn give(may: bool, i: u32, d: u32, none: u32, noted: &mut Noted, dist: &mut [u32])
+    requires { Node (length dist.old) i × Open none d (front_of dist.old noted.old) }
+    ensures { front_of dist.new noted.new ≡ give_of none d may i (front_of dist.old noted.old) }
 {
-    if !may {
-        return count;
-    }
     let p = (i - 1) as usize;
-    if dist[p] != none {
-        return count;
+    if may && dist[p] == none {
+        dist[p] = d;
+        noted.push(i);
     }
-    dist[p] = d;
-    todo[count] = i;
-    count + 1
 }
 
 // Looks at the arc at place k, which touches node j: its other end gets the distance d where the arc may be walked from there to j.
@@ -46,25 +36,25 @@ fn look(
     k: u32,
     d: u32,
     none: u32,
-    todo: &mut [u32],
-    count: usize,
+    noted: &mut Noted,
     dist: &mut [u32],
-) -> usize
+)
     requires rows { Rows none tails.now heads.now capacities.now minimums.now flow.now × (length dist.old ≡ none) × (k < length capacities.now) }
-    requires fact { Open none d (front dist.old todo.old count) }
+    requires fact { Open none d (front_of dist.old noted.old) }
     ensures { let ways = lent_ways tails heads capacities minimums flow in
-        front dist.new todo.new result ≡ give_of none d (may_into ways j k) (other_end ways j k) (front dist.old todo.old count) }
+        front_of dist.new noted.new ≡ give_of none d (may_into ways j k) (other_end ways j k) (front_of dist.old noted.old) }
 {
     let at = k as usize;
     let f = flow[at];
     let tail = tails[at];
     if tail == j {
-        return give(minimums[at] < f, heads[at], d, none, todo, count, dist);
+        give(minimums[at] < f, heads[at], d, none, noted, dist);
+    } else {
+        give(f < capacities[at], tail, d, none, noted, dist);
     }
-    give(f < capacities[at], tail, d, none, todo, count, dist)
 }
 
-// Looks at every arc of node j's list, and answers how many nodes are noted then.
+// Looks at every arc of node j's list.
 fn visit(
     tails: &[u32],
     heads: &[u32],
@@ -75,35 +65,26 @@ fn visit(
     j: u32,
     d: u32,
     none: u32,
-    todo: &mut [u32],
-    count: usize,
+    noted: &mut Noted,
     dist: &mut [u32],
-) -> usize
+)
     requires rows { Rows none tails.now heads.now capacities.now minimums.now flow.now × (length dist.old ≡ none) }
-    requires places { Places (length capacities.now) list.now × Open none d (front dist.old todo.old count) }
+    requires places { Places (length capacities.now) list.now × Open none d (front_of dist.old noted.old) }
     ensures { let ways = lent_ways tails heads capacities minimums flow in
-        front dist.new todo.new result ≡ look_to ways none d j list.now (length list.now) (front dist.old todo.old count) }
+        front_of dist.new noted.new ≡ look_to ways none d j list.now (length list.now) (front_of dist.old noted.old) }
 {
-    let mut noted = count;
-    let mut p = 0;
-    while p < list.len() {
-        noted = look(
-            tails, heads, capacities, minimums, flow, j, list[p], d, none, todo, noted, dist,
+    for k in list {
+        look(
+            tails, heads, capacities, minimums, flow, j, *k, d, none, noted, dist,
         );
-        p += 1;
     }
-    noted
 }
 
 // No node has a distance.
 pub fn reset(dist: &mut [u32], none: u32)
     ensures { dist.new ≡ replicate (length dist.old) none }
 {
-    let mut i = 0;
-    while i < dist.len() {
-        dist[i] = none;
-        i += 1;
-    }
+    dist.fill(none);
 }
 
 // The distance of every node to node t over residual arcs, or their number where t is not reached. A list of nodes still to be visited is kept, the nearer ones first, and each one's arcs are looked at once: O(n + m). The nodes' lists stand in the work row.
@@ -126,13 +107,16 @@ pub fn measure(
 {
     reset(dist, none);
     dist[(t - 1) as usize] = 0;
-    todo[0] = t;
+    let mut noted = Noted {
+        row: todo,
+        count: 0,
+    };
+    noted.push(t);
     let mut at = 0;
-    let mut count = 1;
-    while at < count {
-        let j = todo[at];
+    while at < noted.count {
+        let j = noted.row[at];
         let d = dist[(j - 1) as usize] + 1;
-        count = visit(
+        visit(
             tails,
             heads,
             capacities,
@@ -142,8 +126,7 @@ pub fn measure(
             j,
             d,
             none,
-            todo,
-            count,
+            &mut noted,
             dist,
         );
         at += 1;

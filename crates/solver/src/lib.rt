@@ -167,6 +167,6 @@ pub fn hand_over(
     let m = table.tails.len();
     let nodes = table.nodes as usize;
     rows::store(flow, 0, &flows[..m]);
-    rows::store_marks(side, &marks[..nodes]);
+    rows::store(side, 0, &marks[..nodes]);
     rows::clear(work, work::work_need(table.nodes, m));
 }

@@ -1,66 +1,46 @@
 -- Laws of the largest number, of doubling, and of sums over places.
-use Prim.Native.Nat.{ℕ, zero, suc, ◌+◌, ◌-◌, ◌*◌, ◌^◌, ◌≤◌, ◌<◌, max}
-use native.Mathlib.Nat.{not-suc-le-zero, lt_of_not-le, not-le_of_lt, pow-succ'}
+use Prim.Native.Nat.{ℕ, zero, suc, ◌+◌, ◌-◌, ◌^◌, ◌≤◌, ◌<◌}
+use native.Mathlib.Nat.{not-suc-le-zero, pow-succ'}
 use native.Mathlib.Numerals.{add-one}
 use native.Mathlib.Omega.{arith}
 use mathlib.Core.Path.{◌≡◌, refl, ap}
 use mathlib.Core.List.{List}
-use lib.ListN.{length, drop, drop_of_length-le}
-use lib.Seq.{drop-cons}
+use lib.ListN.{length}
 use lib.Pow.{pow_mono}
 use borrow.Author.Tests.{le-leb, lt-leb, eq-eqb, ne_eqb}
+use Rattle.std.specs.Int.Count.{count_leading_zeros}
+use Rattle.std.proofs.lemmas.Nat.{leading_length}
 use Rattle.rows.specs.Row.{at_place}
+use Rattle.rows.proofs.Sums.{by_equal}
 use Rattle.rows.specs.Sum.{sum}
 use Rattle.network.specs.Network.{inflow, outflow}
 use Rattle.table.specs.Table.{table_of}
-use Rattle.run.specs.Scale.{largest, doublings, phases_for, scale_of}
+use Rattle.run.specs.Scale.{doublings, phases_for, scale_of}
 use Rattle.run.specs.Phase.{value}
 use Rattle.start.specs.Sums.{sum_at}
 
--- ---- the largest number of a row
-
--- The largest number from place i on is the one there or the largest behind it.
-pub largest_on : (row : List ℕ) (i : ℕ) → i < length row → largest (drop i row) ≡ max (at_place row i) (largest (drop (i + 1) row))
-unfolding largest
-largest_on row i h = rw (drop-cons row i 0 h, add-one)
-
--- Past the row's end it is 0.
-pub largest_end : (row : List ℕ) (i : ℕ) → length row ≤ i → largest (drop i row) ≡ 0
-unfolding largest
-largest_end row i h = rw (drop_of_length-le row h)
-
 -- ---- doubling
 
--- The next power is twice as much.
-pub power_on : (j : ℕ) → 2 ^ (j + 1) ≡ 2 * 2 ^ j
-power_on j = rw (add-one, pow-succ')
-
--- A lesser power has a lesser exponent.
-pub power_below : (j k : ℕ) → 2 ^ j < 2 ^ k → j < k
-power_below j k h = lt_of_not-le (λ le. not-le_of_lt h (pow_mono le))
-
--- A power below x is doubled, where one doubling is left.
-pub doublings_step : (x left j : ℕ) → 2 ^ j < x → doublings x (suc left) j ≡ doublings x left (j + 1)
+-- The doublings from j on are m, where x is above each power before 2^m and not above that.
+doublings_are : (x m left j : ℕ) → j ≤ m → m ≤ j + left → x ≤ 2 ^ m → ((k : ℕ) → k < m → 2 ^ k < x) → doublings x left j ≡ m
 unfolding doublings
-doublings_step x left j h = rw (lt-leb x (2 ^ j) h, doublings, add-one)
+doublings_are x m zero j from to high low = omega arith
+doublings_are x m (suc left) j from to high low =
+    by_equal j m
+    (λ e. rw (le-leb x (2 ^ j) (rw e high), doublings) e)
+    (λ other.
+    let before : j < m = omega arith in
+    rw (lt-leb x (2 ^ j) (low j before), doublings) (doublings_are x m left (suc j) (omega arith) (omega arith) high low))
 
--- A power still below x is doubled once more.
-pub doublings_on : (x j : ℕ) → 2 ^ j < x → j < 32 → doublings x (32 - j) j ≡ doublings x (32 - (j + 1)) (j + 1)
-doublings_on x j h small =
-    let one : 32 - j ≡ suc (32 - (j + 1)) = omega arith in
-    rw one (doublings_step x (32 - (j + 1)) j h)
-
--- One that is not is the answer.
-pub doublings_end : (x left j : ℕ) → x ≤ 2 ^ j → doublings x left j ≡ j
-unfolding doublings
-doublings_end x zero j h = refl
-doublings_end x (suc left) j h = rw (le-leb x (2 ^ j) h, doublings)
-
--- K of an excess above 0.
-pub phases_some : (x : ℕ) → (x ≡ 0 → ⊥) → phases_for x ≡ doublings x 32 0 + 1
+-- K of an excess above 0, by the zeros in front of the number before it.
+pub phases_some : (x : ℕ) → (x ≡ 0 → ⊥) → x < 2 ^ 32 → (33 - count_leading_zeros 32 (x - 1) ≡ phases_for x) × (33 - count_leading_zeros 32 (x - 1) ≤ 33)
 unfolding phases_for
-phases_some zero h = absurd (h refl)
-phases_some (suc x) h = rw add-one
+phases_some zero some small = absurd (some refl)
+phases_some (suc a) some small =
+    let (m, zeros, high, low) = leading_length 32 (suc a - 1) (omega arith) in
+    let below : (k : ℕ) → k < m → 2 ^ k < suc a = λ k l. omega (arith, low, pow_mono l, pow-succ') in
+    let all : doublings (suc a) 32 0 ≡ m = doublings_are (suc a) m 32 0 (omega arith) (omega (arith, zeros)) (omega (arith, high)) below in
+    (omega (arith, zeros, all), omega arith)
 
 -- K of no excess.
 pub phases_none : (x : ℕ) → x ≡ 0 → phases_for x ≡ 0

@@ -16,15 +16,8 @@ pub fn start_flow(tails: &[u32], capacities: &[u32], flow: &mut [u32], s: u32)
     ensures { (n t : ℕ) (heads : List ℕ)
         → flow.new ≡ start_flow (table_of n s t tails.now heads capacities.now) ++ drop (length capacities.now) flow.old }
 {
-    let mut k = 0;
-    while k < capacities.len() {
-        let tail = tails[k];
-        if tail == s {
-            flow[k] = capacities[k];
-        } else {
-            flow[k] = 0;
-        }
-        k += 1;
+    for k in 0..capacities.len() {
+        flow[k] = if tails[k] == s { capacities[k] } else { 0 };
     }
 }
 
@@ -33,12 +26,12 @@ fn start_label(n: u32, s: u32, t: u32, i: u32) -> u32
     ensures { (tails heads capacities : List ℕ) → result ≡ start_label_at (table_of n s t tails heads capacities) i }
 {
     if i == s {
-        return n;
+        n
+    } else if i == t {
+        0
+    } else {
+        1
     }
-    if i == t {
-        return 0;
-    }
-    1
 }
 
 // The start's labels.
@@ -48,10 +41,8 @@ pub fn start_labels(labels: &mut [u32], s: u32, t: u32)
         → labels.new ≡ by_node (start_label_at (table_of (length labels.old) s t tails heads capacities)) (length labels.old) }
 {
     let n = labels.len() as u32;
-    let mut i: u32 = 0;
-    while i < n {
+    for i in 0..n {
         labels[i as usize] = start_label(n, s, t, i + 1);
-        i += 1;
     }
 }
 
@@ -60,11 +51,9 @@ fn receive(excess: &mut [u32], t: u32, j: u32, c: u32)
     requires { Node (length excess.old) j × (at_node excess.old j + c < 2 ^ 32) }
     ensures { excess.new ≡ received excess.old t j c }
 {
-    if j == t {
-        return;
+    if j != t {
+        rows::set_node(excess, j, rows::at_node(excess, j) + c);
     }
-    let held = rows::at_node(excess, j);
-    rows::set_node(excess, j, held + c);
 }
 
 // The start's excess: what the filled arcs bring to each node other than source and sink.
@@ -79,14 +68,11 @@ pub fn start_excess(
     requires { ArcRows (length excess.old) tails.now heads.now capacities.now }
     ensures { excess.new ≡ (start (lent_table (length excess.old) s t tails heads capacities)).excess }
 {
-    rows::clear(excess, excess.len());
-    let mut k = 0;
-    while k < capacities.len() {
-        let tail = tails[k];
-        if tail == s {
+    excess.fill(0);
+    for k in 0..capacities.len() {
+        if tails[k] == s {
             receive(excess, t, heads[k], capacities[k]);
         }
-        k += 1;
     }
 }
 
@@ -94,33 +80,18 @@ pub fn start_excess(
 pub fn largest(row: &[u32]) -> u32
     ensures { result ≡ largest row.now }
 {
-    let mut most: u32 = 0;
-    let mut i = 0;
-    while i < row.len() {
-        let x = row[i];
-        if most < x {
-            most = x;
-        }
-        i += 1;
-    }
-    most
+    row.iter().copied().max().unwrap_or(0)
 }
 
-// K: the number of phases for a largest excess after the start.
+// K: the number of phases for a largest excess after the start: 0 for none, and else one more than how often 1 is doubled until it is not below it.
 pub fn phase_count(x: u32) -> u32
     ensures { (result ≡ phases_for x) × (result ≤ 33) }
 {
     if x == 0 {
-        return 0;
+        0
+    } else {
+        33 - (x - 1).leading_zeros()
     }
-    let most = rows::wide(x);
-    let mut j: u32 = 0;
-    let mut power: u64 = 1;
-    while power < most {
-        power = 2 * power;
-        j += 1;
-    }
-    j + 1
 }
 
 // D: the scale for K phases.
@@ -128,16 +99,7 @@ pub fn scale(phases: u32) -> u64
     requires { phases ≤ 33 }
     ensures { result ≡ scale_of phases }
 {
-    if phases == 0 {
-        return 0;
-    }
-    let mut j: u32 = 1;
-    let mut power: u64 = 1;
-    while j < phases {
-        power = 2 * power;
-        j += 1;
-    }
-    power
+    if phases == 0 { 0 } else { 1 << (phases - 1) }
 }
 
 // What the first places of a flow row take along arcs with end i: `ends` is the row of tails or of heads.
@@ -145,14 +107,11 @@ pub fn sum_at(ends: &[u32], flow: &[u32], i: u32) -> u64
     requires { (length ends.now ≤ length flow.now) × (length ends.now ≤ 4096) }
     ensures { result ≡ sum_at ends.now flow.now i (length ends.now) }
 {
-    let mut sum: u64 = 0;
-    let mut k = 0;
-    while k < ends.len() {
-        let end = ends[k];
-        if end == i {
-            sum = sum + rows::wide(flow[k]);
+    let mut sum = 0;
+    for (end, x) in ends.iter().zip(flow) {
+        if *end == i {
+            sum += u64::from(*x);
         }
-        k += 1;
     }
     sum
 }

@@ -1,5 +1,5 @@
 -- Laws of the code that adds up by node.
-use Prim.Native.Nat.{ℕ, zero, suc, ◌+◌, ◌-◌, ◌*◌, ◌^◌, ◌≤◌, ◌<◌}
+use Prim.Native.Nat.{ℕ, zero, suc, ◌+◌, ◌-◌, ◌*◌, ◌≤◌, ◌<◌}
 use mathlib.Core.Path.{◌≡◌, refl, sym, ap, subst, ◌∙◌}
 use mathlib.Core.List.{List}
 use native.Mathlib.Omega.{arith}
@@ -30,10 +30,6 @@ tallied_none ends flow n m = record { exact = λ i v. at i; small = λ i v. omeg
     at (suc k) = zero_at n m k
 
 module _ {ends flow sums : List ℕ} (k : ℕ) (so : Tallied ends flow k sums) (node : Node (length sums) (at_place ends k)) where
-  -- What `add_at` asks.
-  pub tallied_fits : k < 4096 → at_place flow k < 4294967296 → at_node sums (at_place ends k) + at_place flow k < 2 ^ 64
-  tallied_fits few small = omega (arith, so.small (at_place ends k) node)
-
   -- One flow more.
   pub tallied_more : at_place flow k < 4294967296 → {after : List ℕ} → after ≡ set sums (at_place ends k - 1) (at_node sums (at_place ends k) + at_place flow k)
       → Tallied ends flow (k + 1) after

@@ -10,8 +10,7 @@ fn add_at(sums: &mut [u64], i: u32, x: u32)
     requires { Node (length sums.old) i × (at_node sums.old i + x < 2 ^ 64) }
     ensures { sums.new ≡ set sums.old (i - 1) (at_node sums.old i + x) }
 {
-    let at = (i - 1) as usize;
-    sums[at] = sums[at] + rows::wide(x);
+    sums[(i - 1) as usize] += u64::from(x);
 }
 
 // Adds up by node what the flows take along arcs with that end: `ends` is the row of tails or of heads.
@@ -21,9 +20,7 @@ pub fn tally(ends: &[u32], flow: &[u32], sums: &mut [u64])
     requires tallied { Tallied ends.now flow.now 0 sums.old }
     ensures { Tallied ends.now flow.now (length ends.now) sums.new }
 {
-    let mut k = 0;
-    while k < ends.len() {
-        add_at(sums, ends[k], flow[k]);
-        k += 1;
+    for (end, x) in ends.iter().zip(flow) {
+        add_at(sums, *end, *x);
     }
 }

@@ -1,23 +1,14 @@
 -- `look` meets its contract: the arc away from its tail, or from its head.
-use native.Mathlib.Omega.{arith}
 use Rattle.table.specs.Table.{table_of}
 use Rattle.reach.proofs.Visiting.{look_ahead, look_behind}
 use Rattle.reach.proofs.look.Goals as goal
-
-pub note-requires : goal.note-requires
-note-requires c =
-    omega (arith, c.requires.count_in_bounds, c.requires.arc_rows.0.ends.head_node c.args.k (omega (arith, c.requires.arc_rows.2, c.requires.arc_rows.0.capacities_long)))
 
 pub returns-then-tail-i : goal.returns-then-tail-i
 returns-then-tail-i c n s t =
     let args = c.args in
     look_ahead (table_of n s t args.tails.now args.heads.now args.capacities.now) args.flow.now args.i args.k _ c.if-tail-i.true c.note.ensures
 
-pub note-requires-2 : goal.note-requires-2
-note-requires-2 c =
-    omega (arith, c.requires.count_in_bounds, c.requires.arc_rows.0.ends.tail_node c.args.k (omega (arith, c.requires.arc_rows.2, c.requires.arc_rows.0.capacities_long)))
-
-pub returns : goal.returns
-returns c n s t =
+pub returns-else-tail-i : goal.returns-else-tail-i
+returns-else-tail-i c n s t =
     let args = c.args in
-    look_behind (table_of n s t args.tails.now args.heads.now args.capacities.now) args.flow.now args.i args.k _ c.if-tail-i.false c.note-2.ensures
+    look_behind (table_of n s t args.tails.now args.heads.now args.capacities.now) args.flow.now args.i args.k _ c.if-tail-i.false c.note-else-tail-i.ensures

@@ -5,19 +5,20 @@ use Rattle.rows.proofs.Rows.{node_at}
 use Rattle.reach.proofs.Marking.{mark_new}
 use Rattle.reach.proofs.Visiting.{note_shut, note_again, note_new}
 use Rattle.reach.proofs.note.Goals as goal
+use Rattle.reach.proofs.note.Goals.{else-may-via-then-may+else-not-marked, else-may-via-else-may}
 
-pub returns-then-not-may : goal.returns-then-not-may
-returns-then-not-may c = note_shut _ _ _ c.if-not-may.true
-
-pub returns-then-side-p-eq1 : goal.returns-then-side-p-eq1
-returns-then-side-p-eq1 c =
-    note_again _ _ _ c.if-not-may.false (node_at _ _ c.requires.0.0 ∙ c.if-side-p-eq1.true)
-
-pub bounds-todo-count : goal.bounds-todo-count
-bounds-todo-count c =
-    let fewer = mark_new c.args.side.now c.args.j c.requires.0 (λ e. c.if-side-p-eq1.false (sym (node_at _ _ c.requires.0.0) ∙ e)) in
+pub push-requires : goal.push-requires
+push-requires c =
+    let fewer = mark_new c.args.side.now c.args.j c.requires.0 (λ e. c.if-not-marked.true (sym (node_at _ _ c.requires.0.0) ∙ e)) in
     search rules
 
-pub returns : goal.returns
-returns c =
-    note_new _ _ _ c.if-not-may.false (λ e. c.if-side-p-eq1.false (sym (node_at _ _ c.requires.0.0) ∙ e))
+pub returns-then-not-marked : goal.returns-then-not-marked
+returns-then-not-marked c =
+    rw (c.push.ensures.0, c.push.ensures.1) (note_new _ _ _ c.if-may.true (λ e. c.if-not-marked.true (sym (node_at _ _ c.requires.0.0) ∙ e)))
+
+pub returns-else-may : goal.returns-else-may
+returns-else-may c =
+    elim c.else-may.branch [
+      | else-may-via-then-may+else-not-marked w ↦ note_again _ _ _ w.if-may.true (node_at _ _ c.requires.0.0 ∙ w.if-not-marked.false)
+      | else-may-via-else-may w ↦ note_shut _ _ _ w.if-may.false
+    ]

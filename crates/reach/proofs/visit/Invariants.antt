@@ -1,16 +1,13 @@
--- `visit` meets its contract. The loop's invariant: what was done so far is `look_to` over the first p places of the list, with as many more noted as are fewer unmarked.
-use Prim.Native.Nat.{ℕ, ◌≤◌, ◌-◌}
+-- `visit` meets its contract. The loop's invariant: what was done so far is `look_to` over the first places of the list, with as many more noted as are fewer unmarked.
+use Prim.Native.Nat.{ℕ}
 use mathlib.Core.Path.{◌≡◌}
-use lib.ListN.{length}
 use Rattle.table.specs.Table.{table_of}
-use Rattle.reach.specs.Visits.{front, look_to}
+use Rattle.reach.specs.Noted.{front_of}
+use Rattle.reach.specs.Visits.{look_to}
 use Rattle.reach.proofs.Visiting.{Moved}
 use Rattle.reach.proofs.visit.Given as goal
 
-abbrev pub invariant-loop-p : goal.invariant-loop-p
-invariant-loop-p l =
-    (l.p ≤ length l.list) × Moved (front l.initial.side l.initial.todo l.count) (front l.side l.todo l.noted)
-    × ((n s t : ℕ) → front l.side l.todo l.noted ≡ look_to (table_of n s t l.tails l.heads l.capacities) l.flow l.i l.list l.p (front l.initial.side l.initial.todo l.count))
-
-abbrev pub decreases-loop-p : goal.decreases-loop-p
-decreases-loop-p l = length l.list - l.p
+abbrev pub invariant-loop-k : goal.invariant-loop-k
+invariant-loop-k l =
+    Moved (front_of l.initial.side l.initial.noted) (front_of l.side l.noted)
+    × ((n s t : ℕ) → front_of l.side l.noted ≡ look_to (table_of n s t l.tails l.heads l.capacities) l.flow l.i l.list l.k-index (front_of l.initial.side l.initial.noted))

@@ -5,15 +5,10 @@ use Rattle.table.specs.Table.{table_of}
 use Rattle.rows.specs.Row.{by_node}
 use lib.ListN.{length}
 use mathlib.Core.Path.{◌≡◌}
-use Prim.Native.Nat.{◌≤◌, ◌-◌, ◌*◌}
+use Prim.Native.Nat.{◌≤◌, ◌*◌}
 use Rattle.start.proofs.start_excess.Given as goal
 
 abbrev pub invariant-loop-k : goal.invariant-loop-k
 invariant-loop-k l =
-    (l.k ≤ length l.capacities)
-    × (l.excess ≡ by_node (held (table_of (length l.initial.excess) l.s l.t l.tails l.heads l.capacities) l.k) (length l.initial.excess))
-    × (length l.excess ≡ length l.initial.excess)
+    (l.excess ≡ by_node (held (table_of (length l.initial.excess) l.s l.t l.tails l.heads l.capacities) l.k) (length l.initial.excess))
     × (total l.excess ≤ 1000000 * l.k)
-
-abbrev pub decreases-loop-k : goal.decreases-loop-k
-decreases-loop-k l = length l.capacities - l.k

@@ -1,32 +1,17 @@
 -- `start_labels` meets its contract. The invariant: the first i places hold the labels, the others as they were.
-use Rattle.rows.proofs.Rows.{fill_none, fill_place, fill_all}
+use Rattle.rows.proofs.Rows.{fill_none, fill_place}
 use native.Mathlib.Numerals.{add-one}
-use lib.ListN.{length, set, length-set}
+use lib.ListN.{set}
 use mathlib.Core.List.{List, []}
-use mathlib.Core.Path.{◌≡◌, refl, ap, ◌∙◌}
+use mathlib.Core.Path.{ap, ◌∙◌}
 use Prim.Native.Nat.{ℕ}
 use native.Mathlib.Omega.{arith}
-use borrow.Author.Rules.{rules}
 use Rattle.start.proofs.start_labels.Goals as goal
 
 pub loop-i-init : goal.loop-i-init
-loop-i-init c = (search rules, refl, fill_none _ _, refl)
+loop-i-init c = fill_none _ _
 
 pub loop-i-preserved : goal.loop-i-preserved
 loop-i-preserved c =
-    let given = c.args in (
-      omega arith,
-      refl,
-      ap (λ (l : List ℕ). set l c.loop-i.i c.start_label.result) c.loop-i.invariant.2
-          ∙ fill_place _ c.loop-i.i _ given.labels.now (omega arith) (c.start_label.ensures [] [] [] ∙ rw add-one),
-      simp length-set c.loop-i.invariant.3,
-    )
-
-pub shape_of-labels : goal.shape_of-labels
-shape_of-labels c = c.loop-i.invariant.3
-
-pub returns : goal.returns
-returns c tails heads capacities =
-    let given = c.args in
-    let all : c.loop-i.i ≡ length given.labels.now = omega arith in
-    c.loop-i.invariant.2 ∙ fill_all _ c.loop-i.i given.labels.now (omega arith) ∙ rw all
+    ap (λ (l : List ℕ). set l c.loop-i.i c.start_label.result) c.loop-i.invariant
+    ∙ fill_place _ c.loop-i.i _ c.args.labels.now (omega arith) (c.start_label.ensures [] [] [] ∙ rw add-one)

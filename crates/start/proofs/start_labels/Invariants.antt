@@ -5,13 +5,8 @@ use Rattle.rows.specs.Row.{by_node}
 use lib.ListN.{length, drop}
 use mathlib.Core.List.{[], ◌++◌}
 use mathlib.Core.Path.{◌≡◌}
-use Prim.Native.Nat.{◌≤◌, ◌-◌}
 use Rattle.start.proofs.start_labels.Given as goal
 
 abbrev pub invariant-loop-i : goal.invariant-loop-i
 invariant-loop-i l =
-    (l.i ≤ length l.initial.labels) × (l.n ≡ length l.initial.labels)
-    × (l.labels ≡ by_node (start_label_at (table_of (length l.initial.labels) l.s l.t [] [] [])) l.i ++ drop l.i l.initial.labels) × (length l.labels ≡ length l.initial.labels)
-
-abbrev pub decreases-loop-i : goal.decreases-loop-i
-decreases-loop-i l = length l.initial.labels - l.i
+    l.labels ≡ by_node (start_label_at (table_of (length l.initial.labels) l.s l.t [] [] [])) l.i ++ drop l.i l.initial.labels

@@ -2,11 +2,8 @@
 use Rattle.start.specs.Sums.{sum_at}
 use lib.ListN.{length}
 use mathlib.Core.Path.{◌≡◌}
-use Prim.Native.Nat.{◌≤◌, ◌-◌, ◌*◌}
+use Prim.Native.Nat.{◌≤◌, ◌*◌}
 use Rattle.start.proofs.sum_at.Given as goal
 
-abbrev pub invariant-loop-k : goal.invariant-loop-k
-invariant-loop-k l = (l.k ≤ length l.ends) × (l.sum ≡ sum_at l.ends l.flow l.i l.k) × (l.sum ≤ 4294967296 * l.k)
-
-abbrev pub decreases-loop-k : goal.decreases-loop-k
-decreases-loop-k l = length l.ends - l.k
+abbrev pub invariant-loop-end : goal.invariant-loop-end
+invariant-loop-end l = (l.sum ≡ sum_at l.ends l.flow l.i (length l.yielded)) × (l.sum ≤ 4294967296 * length l.yielded)
