@@ -1,7 +1,7 @@
 // Document 02, CR 3: the list of the chains and rings of a flow, found by walks over the lowest places with flow left.
 #![tactic(auto)]
 
-ghost use Rattle.std.specs.Prelude.{◌≡◌, ◌&&◌, [], ◌∷◌, ◌+◌, ◌-◌, ◌^◌, ◌≤◌, ◌<◌, min, length, take, eqb, ltb};
+ghost use Rattle.std.specs.Prelude.{◌≡◌, [], ◌∷◌, ◌+◌, ◌-◌, ◌^◌, ◌≤◌, ◌<◌, length, take};
 ghost use Rattle.std.proofs.lemmas.List.Edits.{sets};
 ghost use Rattle.rows.specs.Row.{Node};
 ghost use Rattle.table.specs.Accepted.{ArcEnds};
@@ -17,11 +17,7 @@ fn next_place(tails: &[u32], left: &[u32], i: u32, from: usize) -> Option<usize>
     requires none_before { NoneBefore (leads_on tails.now left.now i) from }
     ensures { Placed (length tails.now) (onward tails.now left.now i) result }
 {
-    (from..tails.len()).find(
-        |&k|
-            requires { (k < length tails.now) × (k < length left.now) }
-        { tails[k] == i && left[k] > 0 },
-    )
+    (from..tails.len()).find(|&k| tails[k] == i && left[k] > 0)
 }
 
 // The lowest place with flow left, where none before `from` has.
@@ -30,11 +26,7 @@ fn first_left(tails: &[u32], left: &[u32], from: usize) -> Option<usize>
     requires none_before { NoneBefore (has_left left.now) from }
     ensures { Placed (length tails.now) (remaining tails.now left.now) result }
 {
-    (from..tails.len()).find(
-        |&k|
-            requires { k < length left.now }
-        { left[k] > 0 },
-    )
+    (from..tails.len()).find(|&k| left[k] > 0)
 }
 
 // The lowest place with flow left that leaves node i, which is where the next search from i begins.
@@ -80,7 +72,7 @@ fn start_at(source: u32, tails: &[u32], left: &[u32], first: &mut [u32], lowest:
 
 // ---- the walk
 
-// What a walk is: a chain to the sink, a ring, or neither, which never is in a flow. In the list these are 1, 2 and 0.
+// What a walk is: a chain to the sink, a ring, or neither, as no walk in a flow is. In the list these are 1, 2 and 0.
 #[derive(Clone, Copy, Debug, PartialEq, Eq)]
 enum Kind {
     Neither,
@@ -271,67 +263,6 @@ fn write_list(
     at
 }
 
-// As `write_list`, of a flow that stays, where the row for the flow left is as long as the flow.
-fn write_copy(
-    nodes: usize,
-    source: u32,
-    sink: u32,
-    tails: &[u32],
-    heads: &[u32],
-    flow: &[u32],
-    left: &mut [u32],
-    first: &mut [u32],
-    walked: &mut [u32],
-    turns: &mut [u32],
-    list: &mut [u32],
-) -> usize
-    requires ready { Ready nodes tails.now heads.now flow.now first.old × (length flow.now ≡ length left.old) }
-    requires nodes_in_bounds { (nodes ≤ length walked.old) × (length walked.old ≤ 512) × (nodes ≤ length turns.old) × Node nodes source }
-    ensures { Stored (list_of nodes source sink tails.now heads.now flow.now) list.old list.new result }
-{
-    rows::store(left, 0, flow);
-    write_list(
-        nodes, source, sink, tails, heads, left, first, walked, turns, list,
-    )
-}
-
-// As `write_list`, of the flow in the first places of a row, one for each arc.
-fn write_part(
-    nodes: usize,
-    source: u32,
-    sink: u32,
-    tails: &[u32],
-    heads: &[u32],
-    flow: &[u32],
-    left: &mut [u32],
-    first: &mut [u32],
-    walked: &mut [u32],
-    turns: &mut [u32],
-    list: &mut [u32],
-) -> usize
-    requires arc_ends { ArcEnds nodes tails.now heads.now × Node nodes source }
-    requires tails_in_bounds { (length tails.now ≤ length flow.now) × (length tails.now ≤ length left.old) }
-    requires nodes_in_bounds { (nodes ≤ length first.old) × Ahead tails.now (take (length tails.now) flow.now) first.old }
-    requires nodes_in_bounds_2 { (nodes ≤ length walked.old) × (length walked.old ≤ 512) × (nodes ≤ length turns.old) }
-    ensures { let numbers = list_of nodes source sink tails.now heads.now (take (length tails.now) flow.now) in
-        Stored numbers list.old list.new result }
-{
-    let m = tails.len();
-    write_copy(
-        nodes,
-        source,
-        sink,
-        tails,
-        heads,
-        &flow[..m],
-        &mut left[..m],
-        first,
-        walked,
-        turns,
-        list,
-    )
-}
-
 // The list of the chains and rings of the flow in the first places of a row, with rows of its own: how many numbers it has, and these in the row's first places where it has room for all.
 pub fn list_flow(
     n: u32,
@@ -345,18 +276,19 @@ pub fn list_flow(
     requires { ArcEnds n tails.now heads.now × Node n s × (length tails.now ≤ length flow.now) }
     ensures { Stored (list_of n s t tails.now heads.now (take (length tails.now) flow.now)) list.old list.new result }
 {
+    let m = tails.len();
     let mut left = [0u32; 4096];
     let mut first = [0u32; 512];
     let mut walked = [0u32; 512];
     let mut turns = [0u32; 512];
-    write_part(
+    left[..m].copy_from_slice(&flow[..m]);
+    write_list(
         n as usize,
         s,
         t,
         tails,
         heads,
-        flow,
-        &mut left,
+        &mut left[..m],
         &mut first,
         &mut walked,
         &mut turns,

@@ -1,6 +1,5 @@
 -- `take_away` meets its contract. The invariant: what is left to take away are the places from the next on.
 use mathlib.Core.Path.{sym, ◌∙◌}
-use native.Mathlib.Omega.{arith}
 use Rattle.walks.proofs.Scanning.{away_turn, away_done}
 use Rattle.walks.proofs.take_away.Goals as goal
 

@@ -1,5 +1,4 @@
 -- `take_next` meets its contract: what the walk found, with the least amount on it, is the next piece.
-use native.Mathlib.Omega.{arith}
 use Rattle.walks.proofs.Nexts.{start_node, took, took_away, ahead_without}
 use Rattle.walks.proofs.take_next.Goals as goal
 
