@@ -225,13 +225,11 @@ fn solve_days(
         day: 0,
         least: 0,
     };
-    let mut j: usize = 0;
-    while j < starts.len() {
+    for j in 0..starts.len() {
         tally = solve_day(
             j, tally, starts, nodes, sources, sinks, stamps, tails, heads, capacities, minimums,
             flow, side, work, answers,
         );
-        j += 1;
     }
     tally
 }
@@ -242,15 +240,7 @@ fn solve_days(
 fn do_fall(starts: &[u32], end: usize) -> bool
     ensures { result ≡ starts_fall starts.now end (length starts.now) }
 {
-    let mut fall = false;
-    let mut k: usize = 0;
-    while k < starts.len() {
-        if start_of(starts, k + 1, end) < start_of(starts, k, end) {
-            fall = true;
-        }
-        k += 1;
-    }
-    fall
+    (0..starts.len()).any(|k| start_of(starts, k + 1, end) < start_of(starts, k, end))
 }
 
 // Have rows of these lengths room for m flows, and 512 marks and nine numbers for each of k tables?

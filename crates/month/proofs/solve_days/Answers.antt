@@ -1,6 +1,6 @@
--- `solve_days` meets its contract. The loop's invariant: the first j days are solved, and no row's length has changed.
-use Prim.Native.Nat.{ℕ, ◌-◌}
-use mathlib.Core.Path.{◌≡◌, refl, ap, ◌∙◌}
+-- `solve_days` meets its contract. The loop's invariant: the first j days are solved.
+use Prim.Native.Nat.{ℕ, ◌≤◌}
+use mathlib.Core.Path.{◌≡◌, ap, ◌∙◌}
 use native.Mathlib.Omega.{arith}
 use lib.ListN.{length}
 use Rattle.days.specs.Days.{Days, days_of, Held, held, first_days}
@@ -11,48 +11,28 @@ use Rattle.month.proofs.solve_days.Goals as goal
 pub loop-j-init : goal.loop-j-init
 loop-j-init c =
     let given = c.args in
-    (omega arith, no_day (days_of given.starts.now given.nodes.now given.sources.now given.sinks.now given.stamps.now given.tails.now given.heads.now given.capacities.now given.minimums.now) given.flow.now given.side.now given.work.now given.answers.now c.requires, refl, refl, refl, refl)
+    no_day (days_of given.starts.now given.nodes.now given.sources.now given.sinks.now given.stamps.now given.tails.now given.heads.now given.capacities.now given.minimums.now) given.flow.now given.side.now given.work.now given.answers.now c.requires
 
 pub solve_day-tally-requires : goal.solve_day-tally-requires
 solve_day-tally-requires c =
-    let days : Days = days_of c.args.starts.now c.args.nodes.now c.args.sources.now c.args.sinks.now c.args.stamps.now c.args.tails.now c.args.heads.now c.args.capacities.now c.args.minimums.now in
-    let turn : Held = held c.loop-j.tally c.loop-j.flow c.loop-j.side c.loop-j.work c.loop-j.answers in
     let given = c.args in
-    let inv = c.loop-j.invariant in
-    let more = c.loop-j-test.true in record {
-      fact = still_ready days given.flow.now given.side.now given.work.now given.answers.now c.requires c.loop-j.j inv.0 turn inv.1;
-      j_in_bounds = (more, still_countable days given.flow.now given.side.now given.work.now given.answers.now c.requires c.loop-j.j inv.0 turn inv.1);
+    let days : Days = days_of given.starts.now given.nodes.now given.sources.now given.sinks.now given.stamps.now given.tails.now given.heads.now given.capacities.now given.minimums.now in
+    let turn : Held = held c.loop-j.tally c.loop-j.flow c.loop-j.side c.loop-j.work c.loop-j.answers in
+    let so_far : c.loop-j.j ≤ length given.starts.now = omega arith in
+    record {
+      fact = still_ready days given.flow.now given.side.now given.work.now given.answers.now c.requires c.loop-j.j so_far turn c.loop-j.invariant;
+      j_in_bounds = (c.loop-j-test.true, still_countable days given.flow.now given.side.now given.work.now given.answers.now c.requires c.loop-j.j so_far turn c.loop-j.invariant);
     }
 
 pub loop-j-preserved : goal.loop-j-preserved
 loop-j-preserved c =
-    let days : Days = days_of c.args.starts.now c.args.nodes.now c.args.sources.now c.args.sinks.now c.args.stamps.now c.args.tails.now c.args.heads.now c.args.capacities.now c.args.minimums.now in
-    let turn : Held = held c.loop-j.tally c.loop-j.flow c.loop-j.side c.loop-j.work c.loop-j.answers in
     let given = c.args in
-    let inv = c.loop-j.invariant in (
-      omega arith,
-      one_more days given.flow.now given.side.now given.work.now given.answers.now c.requires c.loop-j.j turn _ inv.1 c.solve_day-tally.ensures,
-      c.solve_day-tally.auto.flow ∙ inv.2,
-      c.solve_day-tally.auto.side ∙ inv.3,
-      c.solve_day-tally.auto.work ∙ inv.4,
-      c.solve_day-tally.auto.answers ∙ inv.5,
-    )
-
-pub shape_of-flow : goal.shape_of-flow
-shape_of-flow c = c.loop-j.invariant.2
-
-pub shape_of-side : goal.shape_of-side
-shape_of-side c = c.loop-j.invariant.3
-
-pub shape_of-work : goal.shape_of-work
-shape_of-work c = c.loop-j.invariant.4
-
-pub shape_of-answers : goal.shape_of-answers
-shape_of-answers c = c.loop-j.invariant.5
+    let days : Days = days_of given.starts.now given.nodes.now given.sources.now given.sinks.now given.stamps.now given.tails.now given.heads.now given.capacities.now given.minimums.now in
+    one_more days given.flow.now given.side.now given.work.now given.answers.now c.requires c.loop-j.j (held c.loop-j.tally c.loop-j.flow c.loop-j.side c.loop-j.work c.loop-j.answers) _ c.loop-j.invariant c.solve_day-tally.ensures
 
 pub returns : goal.returns
 returns c =
-    let days : Days = days_of c.args.starts.now c.args.nodes.now c.args.sources.now c.args.sinks.now c.args.stamps.now c.args.tails.now c.args.heads.now c.args.capacities.now c.args.minimums.now in
     let given = c.args in
+    let days : Days = days_of given.starts.now given.nodes.now given.sources.now given.sinks.now given.stamps.now given.tails.now given.heads.now given.capacities.now given.minimums.now in
     let all : c.loop-j.j ≡ length given.starts.now = omega arith in
-    c.loop-j.invariant.1 ∙ ap (λ (k : ℕ). first_days days k (held no_tally given.flow.now given.side.now given.work.now given.answers.now)) all
+    c.loop-j.invariant ∙ ap (λ (k : ℕ). first_days days k (held no_tally given.flow.now given.side.now given.work.now given.answers.now)) all
