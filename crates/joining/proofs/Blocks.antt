@@ -1,10 +1,10 @@
 -- Laws of the code that writes the joined network's rows: the four blocks of places, and a row filled place by place.
 use Prim.Native.Nat.{ℕ, ◌+◌, ◌≤◌, ◌<◌}
-use mathlib.Core.Path.{◌≡◌, refl, ap, sym, ◌∙◌}
+use mathlib.Core.Path.{◌≡◌, ap, sym, ◌∙◌}
 use mathlib.Core.List.{List, ◌++◌}
 use native.Mathlib.Omega.{arith}
 use borrow.Author.Tests.{eq-eqb, ne_eqb, lt-ltb, le-ltb}
-use lib.ListN.{length, set, drop, length-set}
+use lib.ListN.{length, set, drop}
 use Rattle.rows.specs.Row.{by_place}
 use Rattle.rows.proofs.Sums.{by_equal, by_order}
 use Rattle.rows.proofs.Rows.{fill_none, fill_place}
@@ -55,12 +55,12 @@ block_same n m k old ins outs ins' outs' forth back same_in same_out =
 
 -- The first k places of a row hold f, and the rest is as it was.
 abbrev pub Written : (ℕ → ℕ) → (old row : List ℕ) → ℕ → Type 0
-Written f old row k = (row ≡ by_place f k ++ drop k old) × (length row ≡ length old)
+Written f old row k = row ≡ by_place f k ++ drop k old
 
 -- Nothing is written yet,
 pub written_none : (f : ℕ → ℕ) (old : List ℕ) → Written f old old 0
-written_none f old = (fill_none f old, refl)
+written_none f old = fill_none f old
 
 -- and one place more is.
 pub written_next : (f : ℕ → ℕ) (old row : List ℕ) (k : ℕ) → Written f old row k → (x : ℕ) → k < length old → x ≡ f k → Written f old (set row k x) (k + 1)
-written_next f old row k so x l e = (ap (λ r. set r k x) so.0 ∙ fill_place f k x old l e, simp length-set so.1)
+written_next f old row k so x l e = ap (λ r. set r k x) so ∙ fill_place f k x old l e
