@@ -23,10 +23,8 @@ fn add_minimums(more: &[u32], minimums: &[u32], flow: &mut [u32])
     requires by_index { (j : ℕ) → j < length minimums.now → at_place more.now j + at_place minimums.now j ≤ 1000000 }
     ensures { flow.new ≡ by_place (λ k. at_place more.now k + at_place minimums.now k) (length minimums.now) ++ drop (length minimums.now) flow.old }
 {
-    let mut k = 0;
-    while k < minimums.len() {
+    for k in 0..minimums.len() {
         flow[k] = more[k] + minimums[k];
-        k += 1;
     }
 }
 
@@ -36,10 +34,8 @@ fn take_minimums(flow: &[u32], minimums: &[u32], row: &mut [u32])
     requires by_index { (j : ℕ) → j < length minimums.now → at_place minimums.now j ≤ at_place flow.now j }
     ensures { row.new ≡ by_place (λ k. at_place flow.now k - at_place minimums.now k) (length minimums.now) ++ drop (length minimums.now) row.old }
 {
-    let mut k = 0;
-    while k < minimums.len() {
+    for k in 0..minimums.len() {
         row[k] = flow[k] - minimums[k];
-        k += 1;
     }
 }
 
@@ -48,8 +44,8 @@ fn net_out(tails: &[u32], heads: &[u32], flow: &[u32], s: u32) -> i64
     requires { Small tails.now flow.now × Small heads.now flow.now }
     ensures { result ≡ pos (sum_at tails.now flow.now s (length tails.now)) -ℤ pos (sum_at heads.now flow.now s (length heads.now)) }
 {
-    let leaving = joining::held_at(tails, flow, s) as i64;
-    let entering = joining::held_at(heads, flow, s) as i64;
+    let leaving = i64::from(joining::held_at(tails, flow, s));
+    let entering = i64::from(joining::held_at(heads, flow, s));
     leaving - entering
 }
 

@@ -1,11 +1,10 @@
 -- Laws of the whole call's checks: starts that do not fall or pass the end, and what a month that is not refused may rely on.
-use Prim.Native.Nat.{ℕ, zero, suc, ◌+◌, ◌-◌, ◌*◌, ◌≤◌, ◌<◌}
-use mathlib.Core.Path.{◌≡◌, refl, sym, ap, ◌∙◌}
-use mathlib.Core.Bool.{Bool, true, false, ◌||◌}
+use Prim.Native.Nat.{ℕ, zero, suc, ◌+◌, ◌-◌, ◌≤◌, ◌<◌}
+use mathlib.Core.Path.{◌≡◌, sym, ap, ◌∙◌}
+use mathlib.Core.Bool.{Bool, false, ◌||◌}
 use mathlib.Core.List.{List}
-use native.Mathlib.Numerals.{add-one}
 use native.Mathlib.Omega.{arith}
-use borrow.Author.Tests.{lt-ltb, le-ltb, ltb-false, leb-true, eqb-true, not-false}
+use borrow.Author.Tests.{ltb-false, leb-true, eqb-true, not-false}
 use lib.ListN.{length, get_or, get_or-eq_default}
 use Rattle.rows.proofs.Sums.{by_equal, both_true}
 use Rattle.table.specs.Checks.{differ, is_fine, no_refusal}
@@ -16,29 +15,6 @@ use Rattle.days.specs.Month.{starts_fall, rows_differ, has_month_room, verdict_o
 use Rattle.days.specs.Ready.{Ready}
 
 -- ---- starts
-
-module _ (starts : List ℕ) (end k : ℕ) {fall : Bool} (so_far : fall ≡ starts_fall starts end k) {next now : ℕ} (n : next ≡ get_or starts (k + 1) end) (w : now ≡ get_or starts k end) where
-  -- A start above the next.
-  pub falls_here : next < now → true ≡ starts_fall starts end (k + 1)
-  unfolding starts_fall
-  falls_here h =
-      let less : get_or starts (k + 1) end < get_or starts k end = omega arith in
-      rw (add-one k, lt-ltb (get_or starts (k + 1) end) (get_or starts k end) less) (or_true (starts_fall starts end k))
-    where
-      or_true : (b : Bool) → true ≡ b || true
-      or_true true = refl
-      or_true false = refl
-
-  -- One that is not.
-  pub rises_here : now ≤ next → fall ≡ starts_fall starts end (k + 1)
-  unfolding starts_fall
-  rises_here h =
-      let more : get_or starts k end ≤ get_or starts (k + 1) end = omega arith in
-      rw (add-one k, le-ltb (get_or starts (k + 1) end) (get_or starts k end) more) (so_far ∙ or_false (starts_fall starts end k))
-    where
-      or_false : (b : Bool) → b ≡ b || false
-      or_false true = refl
-      or_false false = refl
 
 -- Where none falls, each start is at most the next.
 pub all_rise : (starts : List ℕ) (end k : ℕ) → starts_fall starts end k ≡ false → (j : ℕ) → j < k → get_or starts j end ≤ get_or starts (j + 1) end

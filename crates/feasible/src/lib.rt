@@ -13,14 +13,7 @@ fn all_full(capacities: &[u32], flow: &[u32], from: usize, to: usize) -> bool
     requires { (from ≤ to) × ((to ≤ length capacities.now) × (to ≤ length flow.now)) }
     ensures { Full capacities.now flow.now from to result }
 {
-    let mut k = from;
-    while k < to {
-        if flow[k] != capacities[k] {
-            return false;
-        }
-        k += 1;
-    }
-    true
+    flow[from..to] == capacities[from..to]
 }
 
 // Whether some flow keeps all arcs between their numbers. `none` and `more` come as zeros; where one does, what `more` then holds above the minimums is such a flow.

@@ -1,11 +1,11 @@
 -- Laws of the code that writes the joined network's capacities, with sums by node made in one pass over the arcs.
-use Prim.Native.Nat.{ℕ, suc, ◌+◌, ◌-◌, ◌≤◌, ◌<◌}
+use Prim.Native.Nat.{ℕ, suc, ◌+◌, ◌-◌, ◌<◌}
 use mathlib.Core.Path.{◌≡◌, refl, ap, sym, subst, ◌∙◌}
 use mathlib.Core.List.{List}
 use native.Mathlib.Omega.{arith}
 use lib.ListN.{length, take, replicate}
 use lib.Seq.{length-take-le}
-use Rattle.rows.specs.Row.{Node, at_place, by_place}
+use Rattle.rows.specs.Row.{at_place, by_place}
 use Rattle.rows.proofs.Rows.{places_same}
 use Rattle.start.specs.Sums.{sum_at}
 use Rattle.sums.specs.Tallied.{Tallied}
@@ -21,14 +21,6 @@ sum_at_place {ends} {held} so j l =
     so.exact (suc j) (omega arith, omega arith) ∙ ap (λ i. sum_at ends held i (length ends)) next
 
 module _ {n : ℕ} {tails heads capacities minimums : List ℕ} (rows : Summable n tails heads capacities minimums) where
-  -- What adding up at heads asks,
-  pub heads_asked : ((length heads ≤ length minimums) × (length heads ≤ 4096)) × ((k : ℕ) → k < length heads → Node n (at_place heads k))
-  heads_asked = ((rows.at_heads.long, rows.at_heads.few), λ k l. rows.ends.head_node k (omega (arith, rows.ends.heads_long)))
-
-  -- and at tails.
-  pub tails_asked : (count : ℕ) → count ≡ n → ((length tails ≤ length minimums) × (length tails ≤ 4096)) × ((k : ℕ) → k < length tails → Node count (at_place tails k))
-  tails_asked count e = ((rows.at_tails.long, rows.at_tails.few), λ k l. subst (λ c. Node c (at_place tails k)) (sym e) (rows.ends.tail_node k l))
-
   module _ {entering leaving : List ℕ} (n_enter : length entering ≡ n) (n_leave : length leaving ≡ n)
       (enters : Tallied heads minimums (length heads) entering) (leaves : Tallied tails minimums (length tails) leaving) where
     -- The sums fit 32 bits.

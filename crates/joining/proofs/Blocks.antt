@@ -1,13 +1,13 @@
 -- Laws of the code that writes the joined network's rows: the four blocks of places, and a row filled place by place.
 use Prim.Native.Nat.{ℕ, ◌+◌, ◌≤◌, ◌<◌}
-use mathlib.Core.Path.{◌≡◌, refl, ap, sym, ◌∙◌}
+use mathlib.Core.Path.{◌≡◌, ap, sym, ◌∙◌}
 use mathlib.Core.List.{List, ◌++◌}
 use native.Mathlib.Omega.{arith}
 use borrow.Author.Tests.{eq-eqb, ne_eqb, lt-ltb, le-ltb}
-use lib.ListN.{length, set, drop, length-set}
+use lib.ListN.{length, set, drop}
 use Rattle.rows.specs.Row.{by_place}
 use Rattle.rows.proofs.Sums.{by_equal, by_order}
-use Rattle.rows.proofs.Rows.{fill_none, fill_place, fill_all}
+use Rattle.rows.proofs.Rows.{fill_none, fill_place}
 use Rattle.joining.specs.Joining.{in_block}
 
 -- What stands in each block.
@@ -53,27 +53,14 @@ block_same n m k old ins outs ins' outs' forth back same_in same_out =
     (λ l. sym (block_in n m k old ins outs forth back h l) ∙ same_in h l ∙ block_in n m k old ins' outs' forth back h l))
     (λ l. sym (block_old n m k old ins outs forth back l) ∙ block_old n m k old ins' outs' forth back l)
 
--- One place more of a row.
-module _ (f : ℕ → ℕ) (old row : List ℕ) (k : ℕ) (so : row ≡ by_place f k ++ drop k old) where
-  pub fill_next : (x : ℕ) → k < length old → x ≡ f k → set row k x ≡ by_place f (k + 1) ++ drop (k + 1) old
-  fill_next x l e = ap (λ r. set r k x) so ∙ fill_place f k x old l e
-
-  -- The whole of it.
-  pub fill_end : k ≡ length old → row ≡ by_place f (length old)
-  fill_end e = so ∙ ap (λ j. by_place f j ++ drop j old) e ∙ fill_all f (length old) old (omega arith)
-
 -- The first k places of a row hold f, and the rest is as it was.
 abbrev pub Written : (ℕ → ℕ) → (old row : List ℕ) → ℕ → Type 0
-Written f old row k = (row ≡ by_place f k ++ drop k old) × (length row ≡ length old)
+Written f old row k = row ≡ by_place f k ++ drop k old
 
 -- Nothing is written yet,
 pub written_none : (f : ℕ → ℕ) (old : List ℕ) → Written f old old 0
-written_none f old = (fill_none f old, refl)
+written_none f old = fill_none f old
 
--- one place more is,
+-- and one place more is.
 pub written_next : (f : ℕ → ℕ) (old row : List ℕ) (k : ℕ) → Written f old row k → (x : ℕ) → k < length old → x ≡ f k → Written f old (set row k x) (k + 1)
-written_next f old row k so x l e = (fill_next f old row k so.0 x l e, simp length-set so.1)
-
--- and at the end all.
-pub written_all : (f : ℕ → ℕ) (old row : List ℕ) (k : ℕ) → Written f old row k → k ≡ length old → row ≡ by_place f (length old)
-written_all f old row k so e = fill_end f old row k so.0 e
+written_next f old row k so x l e = ap (λ r. set r k x) so ∙ fill_place f k x old l e

@@ -1,5 +1,6 @@
 -- Laws of the code that sums what a row holds of arcs with one end.
 use Prim.Native.Nat.{ℕ, ◌≤◌}
+use mathlib.Core.Path.{◌≡◌}
 use mathlib.Core.List.{List}
 use native.Mathlib.Omega.{arith}
 use lib.Dec.{eqb}
@@ -21,20 +22,10 @@ small_sum {ends} {row} small i =
           (λ k l. omega (arith, only_le (eqb (at_place ends k) i) (at_place row k), small.each k l)),
     )
 
--- The minimums are small enough to be summed at their tails,
-pub small_tails : {n : ℕ} {tails heads capacities minimums : List ℕ} → BoundedRows n tails heads capacities minimums → Small tails minimums
-small_tails rows =
-    record {
-      few = rows.arcs.ends.few_arcs;
-      long = omega (arith, rows.arcs.capacities_long, rows.minimums_long);
-      each = λ k l. let h = rows.arcs.capacities_long in omega (arith, rows.within k (omega arith), rows.arcs.small k (omega arith));
-    }
-
--- and at their heads.
-pub small_heads : {n : ℕ} {tails heads capacities minimums : List ℕ} → BoundedRows n tails heads capacities minimums → Small heads minimums
-small_heads rows =
+-- The minimums are small enough to be summed at their ends: `ends` is the row of tails or of heads.
+pub small_minimums : {n : ℕ} {tails heads capacities minimums : List ℕ} → BoundedRows n tails heads capacities minimums → (ends : List ℕ) → length ends ≡ length tails → Small ends minimums
+small_minimums rows ends long =
     let c = rows.arcs.capacities_long in
-    let h = rows.arcs.ends.heads_long in
     record {
       few = omega (arith, rows.arcs.ends.few_arcs);
       long = omega (arith, rows.minimums_long);

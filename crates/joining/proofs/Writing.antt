@@ -1,13 +1,13 @@
 -- Laws of the joined network's rows: sums that fit, and the rows as they are written.
 use Prim.Native.Nat.{ℕ}
-use mathlib.Core.Path.{◌≡◌, ap, sym, ◌∙◌}
+use mathlib.Core.Path.{◌≡◌, refl, ap, sym, ◌∙◌}
 use mathlib.Core.List.{List}
 use native.Mathlib.Omega.{arith}
 use lib.ListN.{length}
 use Rattle.rows.specs.Row.{by_place}
 use Rattle.minimums.specs.BoundedTable.{BoundedRows}
 use Rattle.joining.specs.Joining.{joined_arcs, joined_tail, joined_head, joined_capacity, Summable, JoinedRows}
-use Rattle.joining.proofs.Sums.{small_tails, small_heads}
+use Rattle.joining.proofs.Sums.{small_minimums}
 
 -- Capacities and minimums of bounded rows are small enough to be summed.
 pub capacities_summable : {n : ℕ} {tails heads capacities minimums : List ℕ} → BoundedRows n tails heads capacities minimums
@@ -18,8 +18,8 @@ capacities_summable rows =
       ends = rows.arcs.ends;
       minimums_long = rows.minimums_long ∙ rows.arcs.capacities_long;
       capacities_long = omega arith;
-      at_tails = small_tails rows;
-      at_heads = small_heads rows;
+      at_tails = small_minimums rows _ refl;
+      at_heads = small_minimums rows _ rows.arcs.ends.heads_long;
     }
 
 module _ {n : ℕ} {tails heads capacities minimums : List ℕ} (rows : BoundedRows n tails heads capacities minimums) where

@@ -18,13 +18,14 @@ pub fn held_at(ends: &[u32], row: &[u32], i: u32) -> u32
 }
 
 // The ends of an arc.
-#[derive(Clone, Copy)]
+#[derive(Clone, Copy, Debug, PartialEq, Eq)]
 struct Ends {
     tail: u32,
     head: u32,
 }
 
 // The ends of the joined network's arc at place k: those of one of the table's arcs, the new source and a node, a node and the new sink, or source and sink one way or the other.
+#[tactic(auto, unfolding(crate::specs::Joining::in_block))]
 fn ends_at(n: u32, s: u32, t: u32, tails: &[u32], heads: &[u32], k: usize) -> Ends
     requires arc_ends { ArcEnds n tails.now heads.now }
     requires k_bound { k < joined_arcs n (length tails.now) }
@@ -32,47 +33,30 @@ fn ends_at(n: u32, s: u32, t: u32, tails: &[u32], heads: &[u32], k: usize) -> En
 {
     let m = tails.len();
     let nodes = n as usize;
-    let source = n + 1;
-    let sink = n + 2;
     if k < m {
-        let tail = tails[k];
-        let head = heads[k];
-        return Ends {
-            tail: tail,
-            head: head,
-        };
+        Ends {
+            tail: tails[k],
+            head: heads[k],
+        }
+    } else if k < m + nodes {
+        Ends {
+            tail: n + 1,
+            head: (k - m + 1) as u32,
+        }
+    } else if k < m + (nodes + nodes) {
+        Ends {
+            tail: (k - (m + nodes) + 1) as u32,
+            head: n + 2,
+        }
+    } else if k == m + (nodes + nodes) {
+        Ends { tail: s, head: t }
+    } else {
+        Ends { tail: t, head: s }
     }
-    if k < m + nodes {
-        let node = (k - m + 1) as u32;
-        return Ends {
-            tail: source,
-            head: node,
-        };
-    }
-    if k < m + (nodes + nodes) {
-        let node = (k - (m + nodes) + 1) as u32;
-        return Ends {
-            tail: node,
-            head: sink,
-        };
-    }
-    if k == m + (nodes + nodes) {
-        return Ends { tail: s, head: t };
-    }
-    Ends { tail: t, head: s }
-}
-
-// How far a is beyond b, or 0.
-fn beyond(a: u32, b: u32) -> u32
-    ensures { result ≡ a - b }
-{
-    if a <= b {
-        return 0;
-    }
-    a - b
 }
 
 // The capacity at place k of the joined network: what is left above the minimum, the minimums into a node or out of it, or room for everything.
+#[tactic(auto, unfolding(crate::specs::Joining::in_block))]
 fn capacity_at(
     capacities: &[u32],
     minimums: &[u32],
@@ -87,15 +71,14 @@ fn capacity_at(
     let m = minimums.len();
     let nodes = entering.len();
     if k < m {
-        return beyond(capacities[k], minimums[k]);
+        capacities[k].saturating_sub(minimums[k])
+    } else if k < m + nodes {
+        entering[k - m] as u32
+    } else if k < m + (nodes + nodes) {
+        leaving[k - (m + nodes)] as u32
+    } else {
+        4096000000
     }
-    if k < m + nodes {
-        return entering[k - m] as u32;
-    }
-    if k < m + (nodes + nodes) {
-        return leaving[k - (m + nodes)] as u32;
-    }
-    4096000000
 }
 
 // The capacities at all places of the joined network, read off such rows.
@@ -110,10 +93,8 @@ fn fill_capacities(
     requires row_len { length row.old ≡ joined_arcs (length entering.now) (length minimums.now) }
     ensures { row.new ≡ by_place (capacity_at capacities.now minimums.now entering.now leaving.now) (length row.old) }
 {
-    let mut k = 0;
-    while k < row.len() {
+    for k in 0..row.len() {
         row[k] = capacity_at(capacities, minimums, entering, leaving, k);
-        k += 1;
     }
 }
 
@@ -173,12 +154,10 @@ fn join_ends(n: u32, s: u32, t: u32, tails: &[u32], heads: &[u32], from: &mut [u
     ensures tails { from.new ≡ by_place (joined_tail n s t tails.now (length tails.now)) (joined_arcs n (length tails.now)) }
     ensures heads { to.new ≡ by_place (joined_head n s t heads.now (length tails.now)) (joined_arcs n (length tails.now)) }
 {
-    let mut k = 0;
-    while k < from.len() {
+    for k in 0..from.len() {
         let ends = ends_at(n, s, t, tails, heads, k);
         from[k] = ends.tail;
         to[k] = ends.head;
-        k += 1;
     }
 }
 

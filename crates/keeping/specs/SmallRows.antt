@@ -1,7 +1,5 @@
 -- The five rows that hold a smaller table and where it came from.
 use Rattle.std.specs.Prelude.{ℕ, List}
-use denote.Triple.Both.{Both}
-use Rattle.rows.specs.Lent.{LentRow, before}
 
 -- The rows of a smaller table's arcs, and those that say where its nodes and arcs came from.
 pub record SmallRows : Type 0 where

@@ -1,12 +1,12 @@
 // Which nodes and arcs a smaller table keeps: listed, numbered and written, over bare rows; and its flow put back.
 #![tactic(auto)]
 
-ghost use Rattle.std.specs.Prelude.{◌≡◌, true, cond, map, ◌++◌, ℕ, suc, ◌+◌, ◌≤◌, ◌<◌, length, take, drop};
+ghost use Rattle.std.specs.Prelude.{◌≡◌, map, ◌++◌, ℕ, suc, ◌+◌, ◌≤◌, ◌<◌, length, take, drop};
 ghost use Rattle.rows.specs.Row.{Node, at_place, at_node, by_place, by_node};
 ghost use Rattle.table.specs.Accepted.{ArcEnds};
 ghost use Rattle.arcs.specs.Residual.{Places};
 ghost use Rattle.listing.specs.Passing.{passing, filled_with};
-ghost use Rattle.shrinking.specs.Smaller.{both_mark, node_by, arc_by, up_to, back_by};
+ghost use Rattle.shrinking.specs.Smaller.{node_by, arc_by, up_to, back_by};
 ghost use Rattle.keeping.specs.SmallRows.{small_rows};
 ghost use Rattle.keeping.specs.Written.{Written};
 
@@ -15,13 +15,7 @@ fn keeps_node(ahead: &[u8], behind: &[u8], s: u32, t: u32, i: u32) -> bool
     requires { Node (length ahead.now) i × Node (length behind.now) i }
     ensures { result ≡ node_by ahead.now behind.now s t i }
 {
-    if reach::both_mark(ahead, i, behind, i) {
-        return true;
-    }
-    if i == s {
-        return true;
-    }
-    i == t
+    reach::both_mark(ahead, i, behind, i) || i == s || i == t
 }
 
 // Whether the arc at place k is kept: it has capacity above 0, and both rows mark both ends.
@@ -37,37 +31,11 @@ fn keeps_arc(
         × (length capacities.now ≡ length tails.now) × (k < length tails.now) }
     ensures { result ≡ arc_by ahead.now behind.now tails.now heads.now capacities.now k }
 {
-    if capacities[k] < 1 {
-        return false;
-    }
     let tail = tails[k];
-    if !reach::both_mark(ahead, tail, behind, tail) {
-        return false;
-    }
     let head = heads[k];
-    reach::both_mark(ahead, head, behind, head)
-}
-
-// One more where something is kept.
-fn one_more(keep: bool, count: u32) -> u32
-    requires { count < 8192 }
-    ensures { result ≡ cond keep (count + 1) count }
-{
-    if keep {
-        return count + 1;
-    }
-    count
-}
-
-// What a row holds at a place where something is kept, and else 0.
-fn taken(keep: bool, flows: &[u32], at: u32) -> u32
-    requires { keep ≡ true → at < length flows.now }
-    ensures { result ≡ cond keep (at_place flows.now at) 0 }
-{
-    if keep {
-        return flows[at as usize];
-    }
-    0
+    capacities[k] > 0
+        && reach::both_mark(ahead, tail, behind, tail)
+        && reach::both_mark(ahead, head, behind, head)
 }
 
 // Fills a list with the kept nodes, rising, and answers how many there are.
@@ -77,17 +45,12 @@ fn list_kept(ahead: &[u8], behind: &[u8], s: u32, t: u32, list: &mut [u32]) -> u
     ensures { let kept = passing (node_by ahead.now behind.now s t) (suc (length ahead.now)) in
         (result ≡ length kept) × (list.new ≡ filled_with kept list.old) }
 {
-    let mut count: u32 = 0;
-    let mut k = 0;
-    while k < ahead.len() {
-        let i = (k + 1) as u32;
-        if keeps_node(ahead, behind, s, t, i) {
-            list[count as usize] = i;
-            count += 1;
-        }
-        k += 1;
-    }
-    count
+    listing::list_passing(
+        1,
+        ahead.len() as u32 + 1,
+        |i| keeps_node(ahead, behind, s, t, i),
+        list,
+    )
 }
 
 // Gives each node its number: how many kept ones there are up to it.
@@ -96,13 +59,10 @@ fn number_nodes(ahead: &[u8], behind: &[u8], s: u32, t: u32, numbers: &mut [u32]
         × ((1 ≤ s) × (1 ≤ t)) }
     ensures { numbers.new ≡ by_node (up_to (node_by ahead.now behind.now s t)) (length ahead.now) }
 {
-    let mut count: u32 = 0;
-    let mut k = 0;
-    while k < ahead.len() {
-        let keep = keeps_node(ahead, behind, s, t, (k + 1) as u32);
-        count = one_more(keep, count);
+    let mut count = 0;
+    for k in 0..ahead.len() {
+        count += u32::from(keeps_node(ahead, behind, s, t, k as u32 + 1));
         numbers[k] = count;
-        k += 1;
     }
 }
 
@@ -120,42 +80,24 @@ fn list_arcs(
     ensures { let kept = passing (arc_by ahead.now behind.now tails.now heads.now capacities.now) (length tails.now) in
         (result ≡ length kept) × (list.new ≡ filled_with kept list.old) }
 {
-    let mut count: u32 = 0;
-    let mut k = 0;
-    while k < tails.len() {
-        if keeps_arc(ahead, behind, tails, heads, capacities, k) {
-            list[count as usize] = k as u32;
-            count += 1;
-        }
-        k += 1;
-    }
-    count
+    listing::list_passing(
+        0,
+        tails.len() as u32,
+        |k| keeps_arc(ahead, behind, tails, heads, capacities, k as usize),
+        list,
+    )
 }
 
-// Fills a row with the new numbers of the ends of the arcs at these places.
-fn renumber(from: &[u32], ends: &[u32], numbers: &[u32], row: &mut [u32])
-    requires { Places (length ends.now) from.now × ((k : ℕ) → k < length ends.now → Node (length numbers.now) (at_place ends.now k))
-        × (length from.now ≤ length row.old) }
-    ensures { row.new ≡ filled_with (map (λ (k : ℕ). at_node numbers.now (at_place ends.now k)) from.now) row.old }
+// Fills a row with what a function gives at each of these places.
+fn fill_from<F: Fn(usize) -> u32>(places: &[u32], value: F, row: &mut [u32])
+    ghost given: { ℕ → ℕ }
+    requires may_ask { (q : ℕ) → q < length places.now → F.pre value (at_place places.now q) }
+    requires tells { (q : ℕ) → q < length places.now → (x : ℕ) → F.post value (at_place places.now q) x → x ≡ given (at_place places.now q) }
+    requires room { length places.now ≤ length row.old }
+    ensures { row.new ≡ filled_with (map given places.now) row.old }
 {
-    let mut j = 0;
-    while j < from.len() {
-        let k = from[j] as usize;
-        row[j] = rows::at_node(numbers, ends[k]);
-        j += 1;
-    }
-}
-
-// Fills a row with what another holds at these places.
-fn gather(from: &[u32], held: &[u32], row: &mut [u32])
-    requires { Places (length held.now) from.now × (length from.now ≤ length row.old) }
-    ensures { row.new ≡ filled_with (map (λ (k : ℕ). at_place held.now k) from.now) row.old }
-{
-    let mut j = 0;
-    while j < from.len() {
-        let k = from[j] as usize;
-        row[j] = held[k];
-        j += 1;
+    for (j, k) in places.iter().enumerate() {
+        row[j] = value(*k as usize);
     }
 }
 
@@ -175,13 +117,14 @@ pub fn put_back(
     ensures { let kept = arc_by ahead.now behind.now tails.now heads.now capacities.now in
         flow.new ≡ by_place (back_by kept flows.now) (length tails.now) ++ drop (length tails.now) flow.old }
 {
-    let mut count: u32 = 0;
-    let mut k = 0;
-    while k < tails.len() {
-        let keep = keeps_arc(ahead, behind, tails, heads, capacities, k);
-        flow[k] = taken(keep, flows, count);
-        count = one_more(keep, count);
-        k += 1;
+    let mut count = 0;
+    for k in 0..tails.len() {
+        if keeps_arc(ahead, behind, tails, heads, capacities, k) {
+            flow[k] = flows[count];
+            count += 1;
+        } else {
+            flow[k] = 0;
+        }
     }
 }
 
@@ -207,14 +150,14 @@ fn fill_arcs(
     ensures small_capacities_value { small_capacities.new
         ≡ filled_with (map (λ (k : ℕ). at_place capacities.now k) (take count from.now)) small_capacities.old }
 {
-    let m = count as usize;
-    renumber(&from[..m], tails, numbers, small_tails);
-    renumber(&from[..m], heads, numbers, small_heads);
-    gather(&from[..m], capacities, small_capacities);
+    let from = &from[..count as usize];
+    fill_from(from, |k| rows::at_node(numbers, tails[k]), small_tails);
+    fill_from(from, |k| rows::at_node(numbers, heads[k]), small_heads);
+    fill_from(from, |k| capacities[k], small_capacities);
 }
 
 // The smaller table's sizes and ends.
-#[derive(Clone, Copy)]
+#[derive(Clone, Copy, Debug, PartialEq, Eq)]
 pub struct Sizes {
     pub nodes: u32,
     pub arcs: u32,
@@ -263,8 +206,8 @@ pub fn write_small(
         small_capacities,
     );
     Sizes {
-        nodes: nodes,
-        arcs: arcs,
+        nodes,
+        arcs,
         source: rows::at_node(numbers, s),
         sink: rows::at_node(numbers, t),
     }

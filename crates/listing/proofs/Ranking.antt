@@ -6,8 +6,9 @@ use mathlib.Core.List.{List, [], ◌∷◌, ◌++◌, map}
 use native.Mathlib.Omega.{arith}
 use borrow.Author.Tests.{ltb-true, ltb-false}
 use lib.Dec.{ltb}
+use mir.Val.{bool_byte}
 use lib.ListN.{length, set, take, drop, get_or-append}
-use lib.Seq.{get_or_at, take_at, take-length}
+use lib.Seq.{get_or_at, take_at}
 use Rattle.rows.specs.Row.{at_place}
 use Rattle.rows.specs.Sum.{sum, only}
 use Rattle.rows.proofs.Sums.{by_equal, by_test, only_of_zero}
@@ -142,15 +143,11 @@ module _ (test : ℕ → Bool) where
           rw (longer, e) (omega (arith, before, here))
 
   -- Counting on: one more where k passes.
-  pub count_by : (k count after : ℕ) (keep : Bool) → keep ≡ test k → count ≡ rank k → after ≡ cond keep (count + 1) count → after ≡ rank (suc k)
-  count_by k count after true kept counted e = e ∙ omega (arith, counted, count_next test k (sym kept))
-  count_by k count after false kept counted e = e ∙ counted ∙ ap length (sym (passing_no test k (sym kept)))
+  pub count_by : (k count more : ℕ) (keep : Bool) → keep ≡ test k → count ≡ rank k → more ≡ bool_byte keep → count + more ≡ rank (suc k)
+  count_by k count more true kept counted e = omega (arith, counted, e, count_next test k (sym kept))
+  count_by k count more false kept counted e = omega (arith, counted, e, ap length (passing_no test k (sym kept)))
 
 -- A store of what stands at place j of a list, into a row that holds its first j numbers.
 pub copy_on : (l row old : List ℕ) (j x : ℕ) → j < length l → length l ≤ length old → x ≡ at_place l j → row ≡ take j l ++ drop j old
     → set row j x ≡ take (j + 1) l ++ drop (j + 1) old
 copy_on l row old j x h room e held = rw (held, e) (copy_next l old j h room)
-
--- The whole list.
-pub copy_all : (l row old : List ℕ) (j : ℕ) → j ≡ length l → row ≡ take j l ++ drop j old → row ≡ filled_with l old
-copy_all l row old j all held = held ∙ rw (all, take-length)

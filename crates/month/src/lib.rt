@@ -195,13 +195,7 @@ fn solve_days(
 fn do_fall(starts: &[u32], end: usize) -> bool
     ensures { result ≡ starts_fall starts.now end (length starts.now) }
 {
-    let mut fall = false;
-    for k in 0..starts.len() {
-        if start_of(starts, k + 1, end) < start_of(starts, k, end) {
-            fall = true;
-        }
-    }
-    fall
+    (0..starts.len()).any(|k| start_of(starts, k + 1, end) < start_of(starts, k, end))
 }
 
 // Have rows of these lengths room for m flows, and 512 marks and nine numbers for each of k tables?

@@ -1,5 +1,5 @@
 -- Laws of the code that goes on from a flow.
-use Rattle.std.proofs.Common.{◌≡◌, ℕ, ◌+◌, ◌≤◌, List, ◌++◌, length, take, drop, replicate, sym, ap, ◌∙◌, subst, append-nil, arith, drop_of_length-le, length-take-le, take_all}
+use Rattle.std.proofs.Common.{◌≡◌, ℕ, ◌≤◌, List, ◌++◌, length, take, drop, replicate, sym, ap, ◌∙◌, subst, append-nil, arith, drop_of_length-le, length-take-le, take_all}
 use lib.ListN.{length-replicate}
 use Rattle.rows.specs.Row.{at_place, cleared}
 use Rattle.rows.proofs.Rows.{zero_at}

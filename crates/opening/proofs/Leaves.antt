@@ -1,7 +1,6 @@
 -- Laws of the code that tests for a flow.
-use Rattle.std.proofs.Common.{◌≡◌, ℕ, suc, ◌+◌, ◌-◌, ◌<◌, ◌≤◌, Bool, true, false, not, eqb, leb, List, ◌++◌, length, get_or, take, replicate, sym, refl, ap, ◌∙◌, subst, add-one, arith, length-take-le, eq-eqb, ne_eqb, le-leb}
+use Rattle.std.proofs.Common.{◌≡◌, ℕ, suc, ◌-◌, ◌<◌, ◌≤◌, Bool, true, false, not, eqb, List, ◌++◌, length, get_or, take, replicate, sym, refl, ap, ◌∙◌, subst, arith, length-take-le}
 use lib.ListN.{get_or-append}
-use borrow.Author.Tests.{lt-leb}
 use Rattle.rows.specs.Row.{Node, at_place, at_node}
 use Rattle.rows.proofs.Rows.{node_at}
 use Rattle.network.specs.Network.{inflow, outflow}
@@ -14,84 +13,7 @@ use Rattle.start.specs.Sums.{sum_at}
 use Rattle.sums.specs.Tallied.{Tallied}
 use Rattle.sums.proofs.Tallying.{tallied_none}
 use Rattle.opening.specs.Maximum.{all_below, is_within, keeps, is_kept, is_flow, is_maximum}
-use Rattle.opening.proofs.Testing.{all_more, all_broken, all_same}
-
--- ---- `is_within`
-
--- The flows below k are within their capacities.
-abbrev pub WithinTo : (capacities flow : List ℕ) → ℕ → Type 0
-WithinTo capacities flow k = all_below (λ p. leb (at_place flow p) (at_place capacities p)) k ≡ true
-
-module _ (capacities flow : List ℕ) where
-  -- No place is looked at yet.
-  pub within_none : WithinTo capacities flow 0
-  unfolding all_below
-  within_none = refl
-
-  -- One place more.
-  pub within_more : (k : ℕ) → WithinTo capacities flow k → at_place flow k ≤ at_place capacities k → WithinTo capacities flow (k + 1)
-  within_more k before l = all_more (λ p. leb (at_place flow p) (at_place capacities p)) k before (le-leb (at_place flow k) (at_place capacities k) l)
-
-  -- A flow above its capacity.
-  pub within_broken : (k : ℕ) → k < length capacities → at_place capacities k < at_place flow k → false ≡ is_within capacities flow
-  unfolding is_within
-  within_broken k l above =
-      sym (all_broken (λ p. leb (at_place flow p) (at_place capacities p)) (length capacities) k l (lt-leb (at_place flow k) (at_place capacities k) above))
-
-  -- All places.
-  pub within_all : (k : ℕ) → k ≡ length capacities → WithinTo capacities flow k → true ≡ is_within capacities flow
-  unfolding is_within
-  within_all k all so = sym so ∙ ap (all_below (λ p. leb (at_place flow p) (at_place capacities p))) all
-
--- ---- `does_keep`
-
-module _ (s t i entering leaving : ℕ) where
-  -- The source.
-  pub keeps_source : i ≡ s → true ≡ keeps s t i entering leaving
-  keeps_source e = rw (eq-eqb i s e)
-
-  -- The sink.
-  pub keeps_sink : (i ≡ s → ⊥) → i ≡ t → true ≡ keeps s t i entering leaving
-  keeps_sink other e = rw (ne_eqb i s other, eq-eqb i t e)
-
-  -- An inner node.
-  pub keeps_inner : (i ≡ s → ⊥) → (i ≡ t → ⊥) → eqb entering leaving ≡ keeps s t i entering leaving
-  keeps_inner other too = rw (ne_eqb i s other, ne_eqb i t too)
-
--- ---- `is_kept`
-
-module _ (s t : ℕ) (entering leaving : List ℕ) where
-  -- The test of the node behind a place.
-  abbrev stays : ℕ → Bool
-  stays k = keeps s t (suc k) (at_node entering (suc k)) (at_node leaving (suc k))
-
-  -- The nodes up to k keep what enters them.
-  abbrev pub KeptTo : ℕ → Type 0
-  KeptTo k = all_below stays k ≡ true
-
-  -- No node is looked at yet.
-  pub kept_none : KeptTo 0
-  unfolding all_below
-  kept_none = refl
-
-  module _ (k : ℕ) {r : Bool} (is : r ≡ keeps s t (k + 1) (get_or entering k 0) (get_or leaving k 0)) where
-    -- The test of the node behind place k.
-    here : r ≡ stays k
-    here = is ∙ ap (λ i. keeps s t i (get_or entering k 0) (get_or leaving k 0)) (add-one k)
-
-    -- One node more.
-    pub kept_more : KeptTo k → r ≡ true → KeptTo (k + 1)
-    kept_more before e = all_more stays k before (sym here ∙ e)
-
-    -- A node that does not keep what enters it.
-    pub kept_broken : k < length entering → r ≡ false → false ≡ is_kept s t (at_node entering) (at_node leaving) (length entering)
-    unfolding is_kept
-    kept_broken l e = sym (all_broken stays (length entering) k l (sym here ∙ e))
-
-  -- All nodes.
-  pub kept_all : (k : ℕ) → k ≡ length entering → KeptTo k → true ≡ is_kept s t (at_node entering) (at_node leaving) (length entering)
-  unfolding is_kept
-  kept_all k all so = sym so ∙ ap (all_below stays) all
+use Rattle.opening.proofs.Testing.{all_same}
 
 -- ---- `is_conserved` and `is_flow`
 

@@ -1,6 +1,6 @@
 -- An opening's promise, by what the checks find.
 use Rattle.std.specs.Prelude.{Ok, Err}
-use Rattle.std.proofs.Common.{◌≡◌, ℕ, ◌+◌, ◌≤◌, List, ◌++◌, length, take, drop, set, replicate, sym, refl, ap, ◌∙◌, subst, arith, length-take-le, get_or-take, take_at}
+use Rattle.std.proofs.Common.{◌≡◌, ℕ, ◌≤◌, List, ◌++◌, length, take, drop, set, replicate, sym, refl, ap, ◌∙◌, subst, arith, length-take-le, get_or-take, take_at}
 use Rattle.rows.specs.Row.{at_place}
 use Rattle.network.specs.Network.{Flow}
 use Rattle.network.proofs.Agree.{flow_agree}

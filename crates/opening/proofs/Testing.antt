@@ -1,6 +1,10 @@
 -- The test for a maximum flow is exact.
-use Rattle.std.proofs.Common.{◌≡◌, ℕ, zero, suc, ◌+◌, ◌<◌, ◌≤◌, Bool, true, false, not, leb, List, length, sym, refl, ap, ◌∙◌, true≢false, add-one, arith, eq-eqb, ne_eqb, eqb-true, le-leb, leb-true}
+use Rattle.std.proofs.Common.{◌≡◌, ℕ, zero, suc, ◌<◌, ◌≤◌, Bool, true, false, not, leb, List, length, sym, refl, ap, ◌∙◌, true≢false, arith, eq-eqb, ne_eqb, eqb-true, le-leb, leb-true}
 use borrow.Author.Tests.{not-true}
+use Rattle.std.proofs.Common.{get_or, subst, zero-add}
+use Rattle.std.specs.Bool.{MatchBool}
+use Rattle.std.specs.List.{AllWithin, HoldsAt, range_with_len}
+use Rattle.std.proofs.lemmas.List.FromFn.{length-range_with_len, get_or-range_with_len}
 use Rattle.rows.specs.Row.{at_place}
 use Rattle.rows.proofs.Sums.{by_test, both_true, by_equal}
 use Rattle.network.specs.Network.{Inner, Flow, inflow, outflow, Sound}
@@ -27,12 +31,7 @@ unfolding all_below
 all_below_lem test zero h = refl
 all_below_lem test (suc k) h = rw (all_below_lem test k (λ p l. h p (omega arith)), h k (omega arith))
 
--- One place more,
-pub all_more : (test : ℕ → Bool) (k : ℕ) → all_below test k ≡ true → test k ≡ true → all_below test (k + 1) ≡ true
-unfolding all_below
-all_more test k before here = rw (add-one k, before, here)
-
--- a place where it fails,
+-- A place where it fails,
 pub all_broken : (test : ℕ → Bool) (m k : ℕ) → k < m → test k ≡ false → all_below test m ≡ false
 all_broken test m k l fails = by_test (all_below test m) (λ e. absurd (true≢false (sym (below_all test m e k l) ∙ fails))) (λ e. e)
 
@@ -41,6 +40,24 @@ pub all_same : (test other : ℕ → Bool) (k : ℕ) → ((p : ℕ) → p < k �
 unfolding all_below
 all_same test other zero h = refl
 all_same test other (suc k) h = rw (all_same test other k (λ p l. h p (omega arith)), h k (omega arith))
+
+-- What an iterator's `all` over the places below n says of a test.
+pub told_by_all : (test : ℕ → Bool) (n : ℕ) (told : Bool)
+    → MatchBool told (AllWithin (λ k. test k ≡ true) (range_with_len 0 n) 0 (length (range_with_len 0 n))) ((k : ℕ) × (k < length (range_with_len 0 n)) × HoldsAt (λ k. test k ≡ false) (range_with_len 0 n) k)
+    → told ≡ all_below test n
+told_by_all test n told h = go told h
+  where
+    at : (k : ℕ) → k < n → get_or (range_with_len 0 n) k 0 ≡ k
+    at k l = get_or-range_with_len 0 n k 0 l ∙ zero-add k
+
+    go : (told : Bool)
+        → MatchBool told (AllWithin (λ k. test k ≡ true) (range_with_len 0 n) 0 (length (range_with_len 0 n))) ((k : ℕ) × (k < length (range_with_len 0 n)) × HoldsAt (λ k. test k ≡ false) (range_with_len 0 n) k)
+        → told ≡ all_below test n
+    go true all =
+        sym (all_below_lem test n (λ p l. subst (λ q. test q ≡ true) (at p l) (all p 0 (omega arith) (omega (arith, length-range_with_len 0 n)))))
+    go false some =
+        let below : some.0 < n = omega (arith, some.1, length-range_with_len 0 n) in
+        sym (all_broken test n some.0 below (subst (λ q. test q ≡ false) (at some.0 below) (some.2 0)))
 
 -- An inner node that passes keeps what enters it,
 kept_there : (s t i a b : ℕ) → keeps s t i a b ≡ true → (i ≡ s → ⊥) → (i ≡ t → ⊥) → a ≡ b

@@ -27,27 +27,14 @@ fn is_within(capacities: &[u32], flow: &[u32]) -> bool
     requires { length capacities.now ≤ length flow.now }
     ensures { result ≡ is_within capacities.now flow.now }
 {
-    let mut k = 0;
-    while k < capacities.len() {
-        if capacities[k] < flow[k] {
-            return false;
-        }
-        k += 1;
-    }
-    true
+    (0..capacities.len()).all(|k| flow[k] <= capacities[k])
 }
 
 // Whether node i is source or sink, or as much leaves it as enters it.
 fn does_keep(s: u32, t: u32, i: u32, entering: u64, leaving: u64) -> bool
     ensures { result ≡ keeps s t i entering leaving }
 {
-    if i == s {
-        return true;
-    }
-    if i == t {
-        return true;
-    }
-    entering == leaving
+    i == s || i == t || entering == leaving
 }
 
 // Whether that holds of every node.
@@ -55,14 +42,7 @@ fn is_kept(s: u32, t: u32, entering: &[u64], leaving: &[u64]) -> bool
     requires { (length leaving.now ≡ length entering.now) × (length entering.now ≤ 512) }
     ensures { result ≡ is_kept s t (at_node entering.now) (at_node leaving.now) (length entering.now) }
 {
-    let mut k = 0;
-    while k < entering.len() {
-        if !does_keep(s, t, k as u32 + 1, entering[k], leaving[k]) {
-            return false;
-        }
-        k += 1;
-    }
-    true
+    (0..entering.len()).all(|k| does_keep(s, t, k as u32 + 1, entering[k], leaving[k]))
 }
 
 // Whether what enters each node but source and sink leaves it, with rows of sums that hold 0.

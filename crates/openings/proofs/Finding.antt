@@ -17,7 +17,7 @@ use Rattle.reach.specs.Side.{marked, side_of, sink_side_of}
 use Rattle.reach.proofs.Turning.{sink_side_reached}
 use Rattle.run.proofs.Networks.{accepted_sound, no_minimums}
 use Rattle.run.proofs.Answers.{run_best}
-use Rattle.solver.specs.Solving.{left, has_room, refusal, solution, solved, Meets}
+use Rattle.solver.specs.Solving.{left, refusal, solution, solved, Meets}
 use Rattle.solver.proofs.Solved.{Roomy, room_roomy, solved_meets}
 use Rattle.listing.proofs.Ranking.{filled_lists}
 use Rattle.raising.proofs.Raising.{raising_value, raising_never}

@@ -1,6 +1,5 @@
 -- Document 02, CR 13, the first call: what it answers, and what the lent rows hold afterwards.
 use Rattle.std.specs.Prelude.{ℕ, suc, Bool, cond, not, ◌&&◌, ◌≡◌, List, leb, length, take, Ok, Err}
-use Rattle.rows.specs.Lent.{LentRow}
 use Rattle.rows.specs.Row.{cleared}
 use Rattle.table.specs.Table.{Table, arcs}
 use Rattle.table.specs.Checks.{refuse_if, or_else, no_refusal, Verdict}

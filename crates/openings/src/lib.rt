@@ -35,13 +35,9 @@ fn count_nodes(marks: &[u8]) -> u32
     requires { length marks.now ≤ 512 }
     ensures { result ≡ length (nodes_in marks.now) }
 {
-    let mut count: u32 = 0;
-    let mut k = 0;
-    while k < marks.len() {
-        if marks[k] == 1 {
-            count += 1;
-        }
-        k += 1;
+    let mut count = 0;
+    for mark in marks {
+        count += u32::from(*mark == 1);
     }
     count
 }
@@ -51,30 +47,25 @@ fn count_places(tails: &[u32], heads: &[u32], side: &[u8], drains: &[u8]) -> u32
     requires { ArcEnds (length side.now) tails.now heads.now × (length drains.now ≡ length side.now) }
     ensures { result ≡ length (places_in side.now drains.now tails.now heads.now) }
 {
-    let mut count: u32 = 0;
-    let mut k = 0;
-    while k < tails.len() {
-        if reach::both_mark(side, tails[k], drains, heads[k]) {
-            count += 1;
-        }
-        k += 1;
+    let mut count = 0;
+    for k in 0..tails.len() {
+        count += u32::from(reach::both_mark(side, tails[k], drains, heads[k]));
     }
     count
 }
 
 // Fills a list with the marked nodes, rising.
+// Kept: its own loop, since a closure over one row alone gets no proof at `listing::list_passing`.
 fn list_nodes(marks: &[u8], list: &mut [u32]) -> u32
     requires { (length marks.now ≤ 512) × (length (nodes_in marks.now) ≤ length list.old) }
     ensures { (result ≡ length (nodes_in marks.now)) × (list.new ≡ filled_with (nodes_in marks.now) list.old) }
 {
-    let mut count: u32 = 0;
-    let mut k = 0;
-    while k < marks.len() {
-        if marks[k] == 1 {
-            list[count as usize] = (k + 1) as u32;
+    let mut count = 0;
+    for (k, mark) in marks.iter().enumerate() {
+        if *mark == 1 {
+            list[count as usize] = k as u32 + 1;
             count += 1;
         }
-        k += 1;
     }
     count
 }
@@ -86,16 +77,12 @@ fn list_places(tails: &[u32], heads: &[u32], side: &[u8], drains: &[u8], list: &
     ensures { let found = places_in side.now drains.now tails.now heads.now in
         (result ≡ length found) × (list.new ≡ filled_with found list.old) }
 {
-    let mut count: u32 = 0;
-    let mut k = 0;
-    while k < tails.len() {
-        if reach::both_mark(side, tails[k], drains, heads[k]) {
-            list[count as usize] = k as u32;
-            count += 1;
-        }
-        k += 1;
-    }
-    count
+    listing::list_passing(
+        0,
+        tails.len() as u32,
+        |k| reach::both_mark(side, tails[k as usize], drains, heads[k as usize]),
+        list,
+    )
 }
 
 // ---- the call

@@ -205,20 +205,20 @@ module _ (tails heads left : List ℕ) (sink nodes : ℕ) where
         (omega (arith, came.rows.within, came.rows.room)) came.rows.inside
 
     -- To a node already on the walk: a ring.
-    pub came_ring : (j ≡ sink → ⊥) → (r : ℕ) → r ≡ standing tails (take count walked) j → r < count → Went (length tails) f walked 2 r count
+    pub came_ring : (j ≡ sink → ⊥) → (r : ℕ) → r ≡ standing tails (take count walked) j → r < length (take count walked) → Went (length tails) f walked 2 r count
     unfolding arrive
     came_ring ne r e l =
-        let inside : standing tails (take count walked) j < length (take count walked) = omega (arith, long) in
+        let inside : standing tails (take count walked) j < length (take count walked) = omega arith in
         went_part _ f walked 2 r count
         (came.rest ∙ cond_false _ _ _ (ne_eqb j sink ne) ∙ cond_true _ _ _ (lt-ltb _ _ inside)
         ∙ ap (λ x. found 2 (drop x (take count walked))) (sym e))
-        (omega arith) (omega (arith, came.rows.within, came.rows.room)) came.rows.inside
+        (omega (arith, long)) (omega (arith, came.rows.within, came.rows.room)) came.rows.inside
 
     -- To a new node: the walk goes on.
-    pub came_on : (j ≡ sink → ⊥) → (r : ℕ) → r ≡ standing tails (take count walked) j → count ≤ r → Under f walked turns j count
+    pub came_on : (j ≡ sink → ⊥) → standing tails (take count walked) j ≡ length (take count walked) → Under f walked turns j count
     unfolding arrive
-    came_on ne r e l =
-        let none : length (take count walked) ≤ standing tails (take count walked) j = omega (arith, long) in
+    came_on ne e =
+        let none : length (take count walked) ≤ standing tails (take count walked) j = omega arith in
         record {
           rows = came.rows;
           new = standing_none tails (take count walked) j none;

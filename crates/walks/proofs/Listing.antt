@@ -4,33 +4,17 @@ use native.Mathlib.Omega.{arith}
 use mathlib.Core.Path.{◌≡◌, refl, ap, ap₂, sym, subst, ◌∙◌}
 use mathlib.Core.List.{List, [], ◌∷◌, ◌++◌}
 use borrow.Author.Tests.{lt-ltb, le-ltb}
-use lib.ListN.{length, set, drop, length-append, length-drop}
+use lib.ListN.{length, drop, length-append, length-drop}
 use lib.Seq.{sets, length-take-le}
 use Rattle.rows.specs.Row.{part}
 use Rattle.rows.proofs.Storing.{sets_append, sets_front}
 use Rattle.pieces.specs.Chains.{Piece, remaining, next, without, pieces, numbers, list_of}
 use Rattle.pieces.proofs.Lowest.{cond_true, cond_false}
-use Rattle.pieces.proofs.Taking.{away_length}
 use Rattle.walks.specs.Rows.{Took, Stored}
-
--- Three numbers stored, and a list after them.
-pub stored_piece : (list places : List ℕ) (at x y z : ℕ)
-    → sets (set (set (set list at x) (at + 1) y) (at + 2) z) (at + 3) places ≡ sets list at (x ∷ y ∷ z ∷ places)
-stored_piece list places at x y z =
-    let one : at + 1 ≡ suc at = omega arith in
-    let two : at + 2 ≡ suc (suc at) = omega arith in
-    let three : at + 3 ≡ suc (suc (suc at)) = omega arith in
-    ap (λ i. sets (set (set (set list at x) i y) (at + 2) z) (at + 3) places) one
-    ∙ ap₂ (λ i j. sets (set (set (set list at x) (suc at) y) i z) j places) two three
 
 -- How long a part of a row is.
 part_length : (from end : ℕ) (row : List ℕ) → from ≤ end → end ≤ length row → length (part from end row) ≡ end - from
 part_length from end row o l = length-take-le (end - from) (drop from row) (omega (arith, length-drop from row))
-
--- Taking a piece away keeps the row's length.
-pub without_length : (p : Piece) (left : List ℕ) → length (without p left) ≡ length left
-unfolding without
-without_length p left = away_length p.amount p.places left
 
 -- The numbers of a piece and of those after it.
 numbers_cons : (p : Piece) (ps : List Piece) (kind amount : ℕ) (places : List ℕ) → kind ≡ p.kind → amount ≡ p.amount → places ≡ p.places

@@ -1,13 +1,26 @@
 -- What the code asks of its rows, and how it hands over what a walk found, as a part of the row of places walked: for the contracts of the functions that walk and list.
-use Rattle.std.specs.Prelude.{ℕ, ◌^◌, ◌≤◌, ◌<◌, ◌≡◌, Bool, false, List, ◌++◌, length, drop}
+use Rattle.std.specs.Prelude.{ℕ, ◌^◌, ◌≤◌, ◌<◌, ◌≡◌, Bool, false, Option, None, Some, List, ◌++◌, length, drop}
 use Rattle.rows.specs.Row.{at_place, at_node, part}
 use Rattle.table.specs.Accepted.{ArcEnds}
 use Rattle.arcs.specs.Residual.{Places}
 use Rattle.pieces.specs.Chains.{leads_on, Found, Piece}
+use Rattle.walks.specs.declared.Kind.{Kind}
+use Rattle.walks.specs.declared.Kind.TheVariants.{Neither, Chain, Ring}
 
 -- No number before k passes: a search may begin at k.
 abbrev pub NoneBefore : (ℕ → Bool) → ℕ → Type 0
 NoneBefore p k = (j : ℕ) → j < k → p j ≡ false
+
+-- A place below m that was found, or none: x is the place that was, and m where there is none.
+abbrev pub Placed : (m x : ℕ) → Option ℕ → Type 0
+Placed m x None = x ≡ m
+Placed m x (Some k) = (k ≡ x) × (k < m)
+
+-- The number of what a walk is.
+abbrev pub kind_number : Kind → ℕ
+kind_number Neither = 0
+kind_number Chain = 1
+kind_number Ring = 2
 
 -- For each node a place before which none that leaves it has flow left. Flow left only falls, so these places only rise.
 abbrev pub Ahead : (tails left first : List ℕ) → Type 0

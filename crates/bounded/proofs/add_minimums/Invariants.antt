@@ -1,13 +1,8 @@
--- `add_minimums` meets its contract. The invariant: the first k places are written, the others as they were. The measure is what is left of the minimums.
-use Prim.Native.Nat.{◌+◌, ◌-◌, ◌≤◌}
-use mathlib.Core.Path.{◌≡◌}
-use mathlib.Core.List.{◌++◌}
-use lib.ListN.{length, drop}
-use Rattle.rows.specs.Row.{at_place, by_place}
+-- `add_minimums` meets its contract. The invariant: the first k places are written, the others as they were.
+use Prim.Native.Nat.{◌+◌}
+use Rattle.rows.specs.Row.{at_place}
+use Rattle.joining.proofs.Blocks.{Written}
 use Rattle.bounded.proofs.add_minimums.Given as goal
 
 abbrev pub invariant-loop-k : goal.invariant-loop-k
-invariant-loop-k l = (l.k ≤ length l.minimums) × (l.flow ≡ by_place (λ j. at_place l.more j + at_place l.minimums j) l.k ++ drop l.k l.initial.flow) × (length l.flow ≡ length l.initial.flow)
-
-abbrev pub decreases-loop-k : goal.decreases-loop-k
-decreases-loop-k l = length l.minimums - l.k
+invariant-loop-k l = Written (λ j. at_place l.more j + at_place l.minimums j) l.initial.flow l.flow l.k

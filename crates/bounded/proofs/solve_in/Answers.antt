@@ -2,26 +2,10 @@
 use mathlib.Core.Path.{refl, sym, ap, subst, ◌∙◌}
 use native.Mathlib.Omega.{arith}
 use lib.ListN.{length, length-replicate}
-use lib.Seq.{length-take-le}
 use Rattle.bounded.specs.Bounded.{GreatestBounded}
 use Rattle.bounded.proofs.Rows.{room_for, above_is}
 use Rattle.bounded.proofs.Signed.{read_value}
 use Rattle.bounded.proofs.solve_in.Goals as goal
-
-pub join-requires : goal.join-requires
-join-requires c = record {
-  bounded_rows = c.requires.solvable.accepted.rows;
-  from_len = (c.requires.own_rows.from_long, c.requires.own_rows.to_long);
-  limits_len = c.requires.own_rows.limits_long;
-}
-
-pub feasible-requires : goal.feasible-requires
-feasible-requires c = record {
-  accepted_bounded = c.requires.solvable.accepted;
-  joined_rows = c.join.ensures;
-  none_value = (c.requires.own_rows.none_empty, c.requires.own_rows.more_empty);
-  work_end_in_bounds = c.requires.own_rows.lists_long;
-}
 
 pub returns-then-not-feasible : goal.returns-then-not-feasible
 returns-then-not-feasible c =
@@ -31,10 +15,6 @@ pub slice_bounds-greatest-end : goal.slice_bounds-greatest-end
 slice_bounds-greatest-end c =
     room_for c.join.ensures
 
-pub slice_bounds-greatest-end-2 : goal.slice_bounds-greatest-end-2
-slice_bounds-greatest-end-2 c =
-    sym (length-take-le _ _ (room_for c.join.ensures))
-
 pub greatest-value-requires : goal.greatest-value-requires
 greatest-value-requires c = record {
   solvable = c.requires.solvable;
@@ -43,12 +23,6 @@ greatest-value-requires c = record {
       (c.feasible.ensures.keeps c.if-not-feasible.false);
   work_end_in_bounds = omega (arith, c.requires.own_rows.lists_long, c.feasible.auto.lists);
 }
-
-pub shape_of-from : goal.shape_of-from
-shape_of-from c = c.join.auto.from
-
-pub shape_of-to : goal.shape_of-to
-shape_of-to c = c.join.auto.to
 
 pub returns : goal.returns
 returns c =

@@ -1,5 +1,4 @@
--- `join_ends` meets its contract. The invariant: the first k places of both rows are written. The measure is what is left of them.
-use Prim.Native.Nat.{◌-◌, ◌≤◌}
+-- `join_ends` meets its contract. The invariant: the first k places of both rows are written.
 use lib.ListN.{length}
 use Rattle.joining.specs.Joining.{joined_tail, joined_head}
 use Rattle.joining.proofs.Blocks.{Written}
@@ -7,7 +6,4 @@ use Rattle.joining.proofs.join_ends.Given as goal
 
 abbrev pub invariant-loop-k : goal.invariant-loop-k
 invariant-loop-k l =
-    (l.k ≤ length l.initial.from) × Written (joined_tail l.n l.s l.t l.tails (length l.tails)) l.initial.from l.from l.k × Written (joined_head l.n l.s l.t l.heads (length l.tails)) l.initial.to l.to l.k
-
-abbrev pub decreases-loop-k : goal.decreases-loop-k
-decreases-loop-k l = length l.initial.from - l.k
+    Written (joined_tail l.n l.s l.t l.tails (length l.tails)) l.initial.from l.from l.k × Written (joined_head l.n l.s l.t l.heads (length l.tails)) l.initial.to l.to l.k

@@ -1,23 +1,8 @@
 -- `sum_capacities` meets its contract: both rows of sums, then the capacities.
 use mathlib.Core.Path.{◌∙◌}
 use native.Mathlib.Omega.{arith}
-use Rattle.joining.proofs.Adding.{heads_asked, tails_asked, numbers, summed}
+use Rattle.joining.proofs.Adding.{numbers, summed}
 use Rattle.joining.proofs.sum_capacities.Goals as goal
-
-pub tally-requires : goal.tally-requires
-tally-requires c = record {
-  ends_in_bounds = (heads_asked c.requires.summable).0;
-  by_index = (heads_asked c.requires.summable).1;
-  tallied = c.requires.tallied.0;
-}
-
-pub tally-requires-2 : goal.tally-requires-2
-tally-requires-2 c =
-    let asked = tails_asked c.requires.summable _ c.requires.leaving_len.0 in record {
-      ends_in_bounds = asked.0;
-      by_index = asked.1;
-      tallied = c.requires.tallied.1;
-    }
 
 pub fill_capacities-requires : goal.fill_capacities-requires
 fill_capacities-requires c = record {

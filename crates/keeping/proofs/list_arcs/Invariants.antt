@@ -1,13 +1,8 @@
--- `list_arcs` meets its contract. The loop's invariant: the places of the kept arcs below k stand in the list, and are counted.
-use Prim.Native.Nat.{◌-◌, ◌≤◌}
-use lib.ListN.{length}
-use Rattle.listing.proofs.Listing.{Gathered}
+-- `list_arcs` meets its contract: the test of an arc is that the two rows keep it.
 use Rattle.shrinking.specs.Smaller.{arc_by}
+use Rattle.keeping.specs.contracts.fn.list_arcs.list_passing as closure
 use Rattle.keeping.proofs.list_arcs.Given as goal
 
-abbrev pub invariant-loop-k : goal.invariant-loop-k
-invariant-loop-k l =
-    (l.k ≤ length l.tails) × Gathered (arc_by l.ahead l.behind l.tails l.heads l.capacities) l.k l.count l.list l.initial.list
-
-abbrev pub decreases-loop-k : goal.decreases-loop-k
-decreases-loop-k l = length l.tails - l.k
+abbrev pub ghost-list_passing : goal.ghost-list_passing
+ghost-list_passing a =
+    let held = closure.captures a.passes in arc_by held.ahead.now held.behind.now held.tails.now held.heads.now held.capacities.now

@@ -1,5 +1,5 @@
 -- `number_nodes` meets its contract. The loop's invariant: the first k nodes have their numbers, and the kept nodes up to k are counted.
-use Prim.Native.Nat.{suc, ◌+◌, ◌-◌, ◌≤◌}
+use Prim.Native.Nat.{suc}
 use mathlib.Core.Path.{◌≡◌}
 use mathlib.Core.List.{◌++◌}
 use lib.ListN.{length, drop}
@@ -10,8 +10,5 @@ use Rattle.keeping.proofs.number_nodes.Given as goal
 
 abbrev pub invariant-loop-k : goal.invariant-loop-k
 invariant-loop-k l =
-    (l.k ≤ length l.ahead) × (length l.numbers ≡ length l.initial.numbers) × (l.count ≡ length (passing (node_by l.ahead l.behind l.s l.t) (suc l.k)))
+    (l.count ≡ length (passing (node_by l.ahead l.behind l.s l.t) (suc l.k)))
     × (l.numbers ≡ by_place (λ q. up_to (node_by l.ahead l.behind l.s l.t) (suc q)) l.k ++ drop l.k l.initial.numbers)
-
-abbrev pub decreases-loop-k : goal.decreases-loop-k
-decreases-loop-k l = length l.ahead - l.k

@@ -32,18 +32,6 @@ fill_arcs-requires c =
       count_in_bounds = (omega (arith, c.requires.tails_in_bounds.0), omega (arith, c.requires.tails_in_bounds.1), omega (arith, c.requires.tails_in_bounds.2));
     }
 
-pub at_node-requires : goal.at_node-requires
-at_node-requires c =
-    let numbers : List ℕ = c.number_nodes.new.numbers in
-    let numbers_long : length numbers ≡ length c.args.ahead.now = c.number_nodes.auto.numbers ∙ c.requires.arc_ends.2 in
-    omega (arith, numbers_long, c.requires.node.0)
-
-pub at_node-requires-2 : goal.at_node-requires-2
-at_node-requires-2 c =
-    let numbers : List ℕ = c.number_nodes.new.numbers in
-    let numbers_long : length numbers ≡ length c.args.ahead.now = c.number_nodes.auto.numbers ∙ c.requires.arc_ends.2 in
-    omega (arith, numbers_long, c.requires.node.1)
-
 pub returns : goal.returns
 returns c =
     let node_test : ℕ → Bool = let args = c.args in node_by args.ahead.now args.behind.now args.s args.t in

@@ -1,22 +1,16 @@
--- `is_kept` meets its contract. The invariant: the nodes up to k keep what enters them.
-use Rattle.std.proofs.Common.{◌-◌, arith, rules}
-use Rattle.opening.proofs.Leaves.{kept_none, kept_more, kept_broken, kept_all}
+-- `is_kept` meets its contract: the test of the node behind each place.
+use Rattle.std.proofs.Common.{◌≡◌, refl, suc, true, false, length, arith, rules, tests}
+use Rattle.std.proofs.lemmas.Iterator.{cases_from_all, YieldsList-from_range}
+use Rattle.rows.specs.Row.{at_node}
+use Rattle.opening.specs.Maximum.{keeps, is_kept}
+use Rattle.opening.proofs.Testing.{told_by_all}
 use Rattle.opening.proofs.is_kept.Goals as goal
 
-pub loop-k-init : goal.loop-k-init
-loop-k-init c = let g = c.args in (search rules, kept_none g.s g.t g.entering.now g.leaving.now)
-
-pub returns-then-not-does_keep : goal.returns-then-not-does_keep
-returns-then-not-does_keep c =
-    let g = c.args in
-    kept_broken g.s g.t g.entering.now g.leaving.now c.loop-k.k c.does_keep.ensures c.loop-k-test.true c.if-not-does_keep.true
-
-pub loop-k-preserved : goal.loop-k-preserved
-loop-k-preserved c =
-    let g = c.args in
-    (omega arith, kept_more g.s g.t g.entering.now g.leaving.now c.loop-k.k c.does_keep.ensures c.loop-k.invariant.1 c.if-not-does_keep.false)
-
 pub returns : goal.returns
+unfolding is_kept
 returns c =
-    let g = c.args in
-    kept_all g.s g.t g.entering.now g.leaving.now c.loop-k.k (omega arith) c.loop-k.invariant.1
+    let entering = c.args.entering.now in
+    let leaving = c.args.leaving.now in
+    told_by_all (λ k. keeps c.args.s c.args.t (suc k) (at_node entering (suc k)) (at_node leaving (suc k))) (length entering) _
+    (cases_from_all _ _ _ (λ k. keeps c.args.s c.args.t (suc k) (at_node entering (suc k)) (at_node leaving (suc k)) ≡ true) (λ k. keeps c.args.s c.args.t (suc k) (at_node entering (suc k)) (at_node leaving (suc k)) ≡ false) c.all.ensures.ran
+    (YieldsList-from_range 0 _ _ refl (omega arith)) (λ x q k. search (rules, tests)) (λ x q k. search (rules, tests)))

@@ -1,19 +1,16 @@
--- `is_within` meets its contract. The invariant: the flows below k are within their capacities.
-use Rattle.std.proofs.Common.{◌-◌, arith, rules}
-use Rattle.opening.proofs.Leaves.{within_none, within_more, within_broken, within_all}
+-- `is_within` meets its contract: the test of each place.
+use Rattle.std.proofs.Common.{◌≡◌, refl, true, false, leb, length, arith, rules, tests}
+use Rattle.std.proofs.lemmas.Iterator.{cases_from_all, YieldsList-from_range}
+use Rattle.rows.specs.Row.{at_place}
+use Rattle.opening.specs.Maximum.{is_within}
+use Rattle.opening.proofs.Testing.{told_by_all}
 use Rattle.opening.proofs.is_within.Goals as goal
 
-pub loop-k-init : goal.loop-k-init
-loop-k-init c = (search rules, within_none c.args.capacities.now c.args.flow.now)
-
-pub returns-then-capacities-k : goal.returns-then-capacities-k
-returns-then-capacities-k c =
-    within_broken c.args.capacities.now c.args.flow.now c.loop-k.k c.loop-k-test.true c.if-capacities-k.true
-
-pub loop-k-preserved : goal.loop-k-preserved
-loop-k-preserved c =
-    (omega arith, within_more c.args.capacities.now c.args.flow.now c.loop-k.k c.loop-k.invariant.1 c.if-capacities-k.false)
-
 pub returns : goal.returns
+unfolding is_within
 returns c =
-    within_all c.args.capacities.now c.args.flow.now c.loop-k.k (omega arith) c.loop-k.invariant.1
+    let capacities = c.args.capacities.now in
+    let flow = c.args.flow.now in
+    told_by_all (λ k. leb (at_place flow k) (at_place capacities k)) (length capacities) _
+    (cases_from_all _ _ _ (λ k. leb (at_place flow k) (at_place capacities k) ≡ true) (λ k. leb (at_place flow k) (at_place capacities k) ≡ false) c.all.ensures.ran
+    (YieldsList-from_range 0 _ _ refl (omega arith)) (λ x q k. search (rules, tests)) (λ x q k. search (rules, tests)))

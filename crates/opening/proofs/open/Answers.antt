@@ -3,8 +3,7 @@ use Rattle.std.proofs.Common.{◌≡◌, length, ap, ◌∙◌}
 use Rattle.minimums.specs.BoundedTable.{BoundedTable, bounded_of, bounded_in}
 use Rattle.minimums.specs.Checks.{plain_check}
 use Rattle.solver.specs.Solving.{left, has_room}
-use Rattle.opening.specs.Maximum.{MaximumFlow}
-use Rattle.opening.specs.Opening.{opened, opening, Reopens}
+use Rattle.opening.specs.Opening.{opening}
 use Rattle.opening.proofs.Reopening.{refused_own, own_accepts, fine_own, opening_reopens, opening_notmax}
 use Rattle.opening.proofs.open.Goals as goal
 

@@ -1,37 +1,30 @@
--- `count_nodes` meets its contract. The loop's invariant: the marked nodes up to k are counted.
-use Prim.Native.Nat.{suc, ◌+◌, ◌-◌}
+-- `count_nodes` meets its contract. The loop's invariant: the marked nodes up to the next are counted.
+use Prim.Native.Nat.{suc, ◌+◌}
 use mathlib.Core.Path.{◌≡◌, refl}
-use mathlib.Core.Logic.{⊎_elim}
 use native.Mathlib.Omega.{arith}
-use borrow.Author.Tests.{eq-eqb, ne_eqb}
 use lib.ListN.{length}
 use Rattle.reach.specs.Side.{marked}
 use Rattle.listing.specs.Passing.{passing}
-use Rattle.listing.proofs.Listing.{passing_fewer, counted_yes, counted_no}
+use Rattle.listing.proofs.Listing.{passing_fewer}
+use Rattle.listing.proofs.Ranking.{count_by}
 use Rattle.openings.proofs.count_nodes.Goals as goal
-use Rattle.openings.proofs.count_nodes.Goals.{then-marks-k-eq1, else-marks-k-eq1}
 
-pub loop-k-init : goal.loop-k-init
+pub loop-mark-init : goal.loop-mark-init
 unfolding passing
-loop-k-init c = (omega arith, refl)
+loop-mark-init c = refl
+
+-- The marked nodes up to the one after the next are counted.
+counted : (c : goal.After-from-count) → c.loop-mark.count + c.from-count.result ≡ length (passing (marked c.args.marks.now) (suc (suc c.loop-mark.mark-index)))
+counted c = count_by (marked c.args.marks.now) (suc c.loop-mark.mark-index) c.loop-mark.count _ _ refl c.loop-mark.invariant c.from-count.ensures
 
 pub overflow_add-count : goal.overflow_add-count
-overflow_add-count c =
-    omega (arith, c.requires, passing_fewer (marked c.args.marks.now) refl c.loop-k.k)
+overflow_add-count c = omega (arith, c.requires, counted c, passing_fewer (marked c.args.marks.now) refl (suc c.loop-mark.mark-index))
 
-pub loop-k-preserved : goal.loop-k-preserved
-loop-k-preserved c =
-    let marks = c.args.marks.now in
-    let k = c.loop-k.k in
-    let on : suc (k + 1) ≡ suc (suc k) = omega arith in (
-      omega arith,
-      elim c.if-marks-k-eq1.branch [
-        | then-marks-k-eq1 w ↦ counted_yes (marked marks) (suc k) _ _ _ on (eq-eqb _ 1 w.if-marks-k-eq1.true) c.loop-k.invariant.1 w.count-is
-        | else-marks-k-eq1 w ↦ counted_no (marked marks) (suc k) _ _ _ on (ne_eqb _ 1 w.if-marks-k-eq1.false) c.loop-k.invariant.1 w.count-is
-      ],
-    )
+pub loop-mark-preserved : goal.loop-mark-preserved
+loop-mark-preserved c =
+    let on : c.loop-mark.mark-index + 1 ≡ suc c.loop-mark.mark-index = omega arith in rw on (counted c)
 
 pub returns : goal.returns
 returns c =
-    let all : c.loop-k.k ≡ length c.args.marks.now = omega arith in
-    rw (← all) c.loop-k.invariant.1
+    let all : c.loop-mark.mark-index ≡ length c.args.marks.now = omega arith in
+    rw (← all) c.loop-mark.invariant

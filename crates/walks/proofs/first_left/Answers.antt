@@ -1,20 +1,15 @@
--- `first_left` meets its contract: the invariant: what is looked for is the lowest from place k on.
-use Rattle.walks.proofs.Scanning.{search_found, search_on, search_end, remaining_from}
-use borrow.Author.Tests.{lt-ltb, le-ltb}
-use Prim.Native.Nat.{◌-◌}
-use borrow.Author.Rules.{rules}
+-- `first_left` meets its contract: what the search finds is the lowest.
+use mathlib.Core.Path.{◌≡◌}
+use mathlib.Core.Bool.{true, false}
+use Rattle.std.proofs.Common.{rules, tests}
+use Rattle.std.proofs.lemmas.Iterator.{first_from_Range}
+use lib.ListN.{length}
+use Rattle.pieces.specs.Chains.{has_left, remaining}
+use Rattle.walks.proofs.Scanning.{placed}
 use Rattle.walks.proofs.first_left.Goals as goal
 
-pub loop-k-init : goal.loop-k-init
-loop-k-init c = (search rules, remaining_from _ _ _ c.requires.left_len.1 c.requires.none_before)
-
-pub returns-then-left-k-gt0 : goal.returns-then-left-k-gt0
-returns-then-left-k-gt0 c =
-    search_found _ _ _ _ c.loop-k.invariant.1 c.loop-k-test.true (lt-ltb _ _ c.if-left-k-gt0.true)
-
-pub loop-k-preserved : goal.loop-k-preserved
-loop-k-preserved c =
-    (search rules, search_on _ _ _ _ c.loop-k.invariant.1 c.loop-k-test.true (le-ltb _ _ c.if-left-k-gt0.false))
-
 pub returns : goal.returns
-returns c = search_end _ _ _ _ c.loop-k.invariant.1 c.loop-k-test.false
+unfolding remaining
+returns c =
+    placed (has_left c.args.left.now) (length c.args.tails.now) c.args.from c.requires.left_len.1 c.requires.none_before _
+    (first_from_Range _ _ _ _ (λ k. has_left c.args.left.now k ≡ true) (λ k. has_left c.args.left.now k ≡ false) c.find.ensures.ran (λ x q k. search (rules, tests)) (λ x q k. (search rules, search (rules, tests))))

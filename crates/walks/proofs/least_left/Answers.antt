@@ -1,43 +1,31 @@
--- `least_left` meets its contract: the invariant: the least amount is that of `so` and of the places from number q on.
-use Rattle.walks.proofs.Scanning.{least_none, least_starts, least_turn, least_done}
-use Rattle.pieces.specs.Chains.{least_of}
-use mathlib.Core.Path.{sym, ◌∙◌, ap}
-use Prim.Native.Nat.{◌-◌}
-use borrow.Author.Rules.{rules}
+-- `least_left` meets its contract. The invariant: the least amount is that of `least` and of the places from number k-index on.
+use Prim.Native.Nat.{ℕ, suc, ◌<◌}
+use mathlib.Core.Path.{sym, ap, subst, ◌∙◌}
+use mathlib.Core.List.{List}
 use native.Mathlib.Omega.{arith}
+use lib.ListN.{length}
+use Rattle.rows.specs.Row.{at_place}
+use Rattle.pieces.specs.Chains.{least, least_of}
+use Rattle.walks.proofs.Scanning.{least_none, least_turn, least_done}
 use Rattle.walks.proofs.least_left.Goals as goal
 
-pub returns-then-places-lt1 : goal.returns-then-places-lt1
-returns-then-places-lt1 c = least_none _ _ c.if-places-lt1.true
+pub returns-in_default : goal.returns-in_default
+returns-in_default c =
+    let empty = c.in_default.ensures.cases in
+    least_none c.args.left.now c.args.places.now (omega arith)
 
-pub overflow_cast-first : goal.overflow_cast-first
-overflow_cast-first c = omega (arith, c.type_inv.places 0)
-
-pub offset_bounds-left-first : goal.offset_bounds-left-first
-offset_bounds-left-first c = omega (arith, c.type_inv.places 0, c.requires 0 c.if-places-lt1.false)
-
-pub bounds-left-first : goal.bounds-left-first
-bounds-left-first c = c.requires 0 c.if-places-lt1.false
-
-pub loop-q-init : goal.loop-q-init
-loop-q-init c = (c.if-places-lt1.false, least_starts _ _ c.if-places-lt1.false)
-
-pub overflow_cast-k : goal.overflow_cast-k
-overflow_cast-k c = omega (arith, c.type_inv.places c.loop-q.q)
-
-pub offset_bounds-left-k : goal.offset_bounds-left-k
-offset_bounds-left-k c =
-    omega (arith, c.type_inv.places c.loop-q.q, c.requires c.loop-q.q c.loop-q-test.true)
+pub loop-k-init : goal.loop-k-init
+unfolding least
+loop-k-init c = ap (least c.args.left.now) c.in-Some.ensures.cases.0
 
 pub bounds-left-k : goal.bounds-left-k
 bounds-left-k c =
-    c.requires c.loop-q.q c.loop-q-test.true
+    let cases = c.in-Some.ensures.cases in
+    subst (λ (row : List ℕ). at_place row (suc c.loop-k.k-index) < length c.args.left.now) cases.0 (c.requires (suc c.loop-k.k-index) (omega (arith, cases.1, c.loop-k-test.true)))
 
-pub loop-q-preserved : goal.loop-q-preserved
-loop-q-preserved c = (
-  search rules,
-  c.loop-q.invariant.1 ∙ least_turn _ _ _ _ c.loop-q-test.true ∙ ap (least_of _ _) (sym c.smaller-so.ensures),
-)
+pub loop-k-preserved : goal.loop-k-preserved
+loop-k-preserved c =
+    c.loop-k.invariant ∙ least_turn _ _ _ _ c.loop-k-test.true ∙ ap (least_of _ _) (sym c.min-least.ensures)
 
 pub returns : goal.returns
-returns c = sym (c.loop-q.invariant.1 ∙ least_done _ _ _ _ c.loop-q-test.false)
+returns c = sym (c.loop-k.invariant ∙ least_done _ _ _ _ c.loop-k-test.false)

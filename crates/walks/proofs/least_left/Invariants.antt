@@ -1,12 +1,8 @@
--- `least_left` meets its contract: the invariant: the least amount is that of `so` and of the places from number q on.
-use Rattle.pieces.specs.Chains.{least, least_of}
-use lib.ListN.{length, drop}
+-- `least_left` meets its contract. The invariant: the least amount is that of `least` and of the places from number k-index on.
+use lib.ListN.{drop}
 use mathlib.Core.Path.{◌≡◌}
-use Prim.Native.Nat.{◌≤◌, ◌-◌}
+use Rattle.pieces.specs.Chains.{least, least_of}
 use Rattle.walks.proofs.least_left.Given as goal
 
-abbrev pub invariant-loop-q : goal.invariant-loop-q
-invariant-loop-q l = (l.q ≤ length l.places) × (least l.left l.places ≡ least_of l.left (drop l.q l.places) l.so)
-
-abbrev pub decreases-loop-q : goal.decreases-loop-q
-decreases-loop-q l = length l.places - l.q
+abbrev pub invariant-loop-k : goal.invariant-loop-k
+invariant-loop-k l = least l.left l.places ≡ least_of l.left (drop l.k-index l.rest) l.least

@@ -1,12 +1,8 @@
--- `take_away` meets its contract: the invariant: what is left to take away are the places from number q on.
-use Rattle.pieces.specs.Chains.{take_away}
-use lib.ListN.{length, drop}
+-- `take_away` meets its contract. The invariant: what is left to take away are the places from the next on.
+use lib.ListN.{drop}
 use mathlib.Core.Path.{◌≡◌}
-use Prim.Native.Nat.{◌≤◌, ◌-◌}
+use Rattle.pieces.specs.Chains.{take_away}
 use Rattle.walks.proofs.take_away.Given as goal
 
-abbrev pub invariant-loop-q : goal.invariant-loop-q
-invariant-loop-q l = (l.q ≤ length l.places) × (length l.left ≡ length l.initial.left) × (take_away l.amount l.places l.initial.left ≡ take_away l.amount (drop l.q l.places) l.left)
-
-abbrev pub decreases-loop-q : goal.decreases-loop-q
-decreases-loop-q l = length l.places - l.q
+abbrev pub invariant-loop-place : goal.invariant-loop-place
+invariant-loop-place l = take_away l.amount l.places l.initial.left ≡ take_away l.amount (drop l.place-index l.places) l.left

@@ -1,22 +1,19 @@
 -- `when_left` meets its contract: the number noted of node j counts where the walk did leave j there.
-use Rattle.walks.proofs.Scanning.{stands_here, stands_off}
+use mathlib.Core.Path.{sym}
 use native.Mathlib.Omega.{arith}
+use Rattle.walks.proofs.Scanning.{stands_here, stands_off}
 use Rattle.walks.proofs.when_left.Goals as goal
+use Rattle.walks.proofs.when_left.Goals.{else-q-walked-via-then-q-walked+else-tails-walked, else-q-walked-via-else-q-walked}
 
-pub overflow_cast-k : goal.overflow_cast-k
-overflow_cast-k c = omega (arith, c.type_inv.walked c.at_node-q.result)
-
-pub offset_bounds-tails-k : goal.offset_bounds-tails-k
-offset_bounds-tails-k c = omega (arith, c.requires.places.0 c.at_node-q.result c.if-q-walked.true)
-
-pub bounds-tails-k : goal.bounds-tails-k
-bounds-tails-k c = c.requires.places.0 c.at_node-q.result c.if-q-walked.true
-
-pub returns-then-tails-k : goal.returns-then-tails-k
-returns-then-tails-k c = stands_here _ _ _ c.requires.places.1 _ _ c.at_node-q.ensures c.if-q-walked.true c.if-tails-k.true
-
-pub returns-else-tails-k : goal.returns-else-tails-k
-returns-else-tails-k c = stands_off _ _ _ c.requires.places.1 _ _ c.at_node-q.ensures (λ _ e. c.if-tails-k.false e)
+pub returns-then-tails-walked : goal.returns-then-tails-walked
+returns-then-tails-walked c = (stands_here _ _ _ c.requires.places.1 _ _ c.at_node-q.ensures c.if-q-walked.true c.if-tails-walked.true, c.if-q-walked.true)
 
 pub returns-else-q-walked : goal.returns-else-q-walked
-returns-else-q-walked c = stands_off _ _ _ c.requires.places.1 _ _ c.at_node-q.ensures (λ l _. absurd (omega (arith, c.if-q-walked.false)))
+returns-else-q-walked c =
+    sym
+    (stands_off _ _ _ c.requires.places.1 _ _ c.at_node-q.ensures
+    (λ l e.
+    elim c.else-q-walked.branch [
+      | else-q-walked-via-then-q-walked+else-tails-walked w ↦ w.if-tails-walked.false e
+      | else-q-walked-via-else-q-walked w ↦ absurd (omega (arith, w.if-q-walked.false))
+    ]))
