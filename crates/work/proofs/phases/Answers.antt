@@ -7,12 +7,12 @@ use Rattle.run.specs.Phase.{Run, no_steps, run}
 use Rattle.run.proofs.Whole.{phases_bound}
 use Rattle.until.specs.Stopping.{into_sink, stopped}
 use Rattle.arcs.specs.Work.{SameLists}
-use Rattle.arcs.proofs.Work.{lists_on, lists_idle, in_work_kept}
+use Rattle.arcs.proofs.Work.{lists_on, lists_idle}
 use Rattle.work.specs.Held.{run_in}
 use Rattle.work.proofs.Phasing.{first_delta, first_run, next_delta, next_run, whole_run}
 use Rattle.work.proofs.Going.{underway_first, underway_end}
 use native.Mathlib.Omega.{arith}
-use mathlib.Core.Path.{◌≡◌, ap, sym, ◌∙◌}
+use mathlib.Core.Path.{◌≡◌, ap, ◌∙◌}
 use Rattle.work.proofs.phases.Goals as goal
 
 -- Counts of 0 are those of no steps.
@@ -37,16 +37,6 @@ loop-init c =
       lists_idle given.n given.work.now,
       c.requires.fact_3.0,
     )
-
-pub phase-tally-requires : goal.phase-tally-requires
-phase-tally-requires c =
-    let table : Table = table_of c.args.n c.args.s c.args.t c.args.tails.now c.args.heads.now c.args.capacities.now in
-    let inv = c.loop.invariant in
-    let here_is = inv.2 (omega (arith, c.if-q-tally.false)) in record {
-      fact = (c.requires.fact.0, in_work_kept table c.args.work.now c.loop.work inv.3 (sym c.loop.auto.work) c.requires.fact.1, c.requires.fact.2);
-      fact_2 = (record { done = c.loop.counter; more = omega (arith, c.loop-test.true, c.requires.fact_2.1); delta_is = inv.0; run_is = here_is }, inv.1);
-      fact_3 = (inv.4, c.loop.auto.tree ∙ c.requires.fact_3.1);
-    }
 
 pub loop-preserved : goal.loop-preserved
 loop-preserved c =

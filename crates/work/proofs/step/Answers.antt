@@ -14,53 +14,9 @@ use Rattle.work.specs.Held.{state_in}
 use Rattle.work.proofs.Stepping.{same_state}
 use Rattle.work.proofs.Advancing.{stepped_push, stepped_relabel}
 use lib.ListN.{length, set}
-use native.Mathlib.Omega.{arith}
 use mathlib.Core.List.{List}
 use mathlib.Core.Path.{refl, ap, ◌∙◌, subst, subst⁻¹}
 use Rattle.work.proofs.step.Goals as goal
-
-pub search_list-requires : goal.search_list-requires
-search_list-requires c = record {
-  arc_rows = (c.requires.arc_rows.0, c.requires.in_phase.0.within, c.requires.in_phase.1);
-  by_index = (c.args.s, c.args.t, c.requires.arc_rows.1, c.requires.fact.1, c.requires.arc_rows.2);
-}
-
-pub push_from-full-requires : goal.push_from-full-requires
-push_from-full-requires c =
-    let table : Table = table_of c.args.n c.args.s c.args.t c.args.tails.now c.args.heads.now c.args.capacities.now in
-    let state : State = state_in c.args.n c.args.flow.now c.args.work.now in
-    let spot : SpotIs table state c.args.i (list table c.args.i) c.search_list.result = c.search_list.ensures c.args.s c.args.t c.requires.arc_rows.1 c.requires.arc_rows.2 c.requires.fact.1 in
-    let at : Spot = c.in-Some.spot in
-    let spot_at : SpotIs table state c.args.i (list table c.args.i) (Some at) = subst (SpotIs table state c.args.i (list table c.args.i)) c.in-Some.is spot in
-    let below : at.place < length c.args.capacities.now = subst⁻¹ (λ (k : ℕ). k < length c.args.capacities.now) spot_at.1 (list_stands table c.args.i at.position spot_at.0).0 in
-    record {
-      arc_rows = (c.requires.arc_rows.0, omega (arith, c.requires.arc_rows.1.room));
-      fact = (c.requires.in_phase.0, c.requires.in_phase.1, below, spot_at.4);
-    }
-
-pub set_looked-requires : goal.set_looked-requires
-set_looked-requires c =
-    (c.requires.arc_rows.0.ends.few_nodes, omega (arith, c.requires.arc_rows.1.room, c.push_from-full.auto.work), c.requires.in_phase.1)
-
-pub count_push-requires : goal.count_push-requires
-count_push-requires c = c.requires.in_phase.2
-
-pub label_from_list-found-requires : goal.label_from_list-found-requires
-label_from_list-found-requires c = record {
-  arc_rows = (c.requires.arc_rows.0, c.requires.in_phase.0.within, c.requires.in_phase.1);
-  by_index = (c.args.s, c.args.t, c.requires.arc_rows.1, c.requires.arc_rows.2);
-}
-
-pub set_label-requires : goal.set_label-requires
-set_label-requires c =
-    (omega (arith, c.requires.arc_rows.1.room), c.requires.in_phase.1)
-
-pub set_looked-requires-in-None : goal.set_looked-requires-in-None
-set_looked-requires-in-None c =
-    (c.requires.arc_rows.0.ends.few_nodes, omega (arith, c.requires.arc_rows.1.room, c.set_label.auto.work), c.requires.in_phase.1)
-
-pub count_relabel-requires : goal.count_relabel-requires
-count_relabel-requires c = c.requires.in_phase.2
 
 pub returns-in-Some : goal.returns-in-Some
 returns-in-Some c =
