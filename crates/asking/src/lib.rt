@@ -3,7 +3,7 @@
 
 // What the question returns: a refusal's number and place, or 0 with 1 for yes and 0 for no, and the results of the run that stopped.
 #[repr(C)]
-#[derive(Clone, Copy)]
+#[derive(Clone, Copy, Debug, PartialEq, Eq)]
 pub struct Room {
     pub refusal: u32,
     pub place: u32,
