@@ -157,11 +157,9 @@ module _ {N : Network} {flow : List ℕ} (ends : Ends N.n (ways_in N flow)) {row
   -- One place more.
   pub walking_turn : at_node row N.s ≤ length chain₀ → k < N.m → {lowest' far' : List ℕ} {q r j : ℕ} → length lowest' ≡ length lowest → length far' ≡ length far
       → Noted (ways_in N flow) N.n row lowest' far' → q ≡ residual_from N flow i k → r ≡ min least q → j ≡ other_end (ways_in N flow) i k
-      → {place passed : ℕ} → place ≡ p → passed ≡ p + 1 → Walking N flow row chain₀ lowest' far' (set chain place k) j (d - 1) r passed
-  walking_turn fits here {lowest'} {far'} {q} {r} {j} long far_long noted eq er ej {place} {passed} ep en =
-      subst (λ x. Walking N flow row chain₀ lowest' far' (set chain x k) j (d - 1) r passed) (sym ep)
-      (subst (λ x. Walking N flow row chain₀ lowest' far' (set chain p k) j (d - 1) r x) (sym en)
-      (subst (λ x. Walking N flow row chain₀ lowest' far' (set chain p k) x (d - 1) r (p + 1)) (sym ej)
+      → Walking N flow row chain₀ lowest' far' (set chain p k) j (d - 1) r (p + 1)
+  walking_turn fits here {lowest'} {far'} {q} {r} {j} long far_long noted eq er ej =
+      subst (λ x. Walking N flow row chain₀ lowest' far' (set chain p k) x (d - 1) r (p + 1)) (sym ej)
       (subst (λ x. Walking N flow row chain₀ lowest' far' (set chain p k) (other_end (ways_in N flow) i k) (d - 1) x (p + 1)) (sym (er ∙ ap (min least) eq))
       (record {
         long = length-set chain p k ∙ so.long;
@@ -180,7 +178,7 @@ module _ {N : Network} {flow : List ℕ} (ends : Ends N.n (ways_in N flow)) {row
             ∙ ap (λ x. arrives (ways_in N flow) row x i) (sym before)
             ∙ so.on;
         value = value_turn N flow row d (d - 1) least i k before is ∙ so.value;
-      }))))
+      }))
     where
       whole' : List ℕ
       whole' = chain_from (ways_in N flow) row (at_node row N.s) N.s

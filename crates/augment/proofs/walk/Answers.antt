@@ -1,4 +1,4 @@
--- `walk` meets its contract. The loop's invariant: the first p places are there, and the chain goes on from node i. The measure is the label.
+-- `walk` meets its contract. The loop's invariant: the first p places are there, and the chain goes on from node i.
 use mathlib.Core.Path.{◌≡◌, sym, ◌∙◌}
 use native.Mathlib.Omega.{arith}
 use Rattle.shortest.specs.Augment.{bound_network}
@@ -6,8 +6,6 @@ use Rattle.shortest.proofs.Ends.{rows_ends}
 use Rattle.augment.proofs.Pouring.{residual_picked}
 use Rattle.augment.proofs.Extending.{source_label, walked_above}
 use Rattle.rows.proofs.Rows.{node_at}
-use Prim.Native.Nat.{ℕ, ◌+◌, ◌-◌}
-use lib.ListN.{get_or}
 use Rattle.augment.proofs.Walking.{walking_turn, walking_stuck, walking_there, walking_done}
 use Rattle.augment.proofs.walk.Goals as goal
 
@@ -20,13 +18,10 @@ loop-d-preserved c =
     let given = c.args in
     let so = c.loop-d in
     let here = c.if-capacities-k.false in
-    let label : ℕ = get_or given.dist.now (given.s - 1) 0 in
-    let place : label - 1 - (so.d - 1) ≡ label - so.d = omega (arith, c.loop-d-test.true) in
-    let passed : label - (so.d - 1) ≡ label - so.d + 1 = omega (arith, so.auto.d, c.loop-d-test.true) in
     walking_turn (rows_ends c.requires.ready.rows) so.invariant c.loop-d-test.true c.leave_by-k.ensures.place
     (omega (arith, c.requires.lowest_len.2, (source_label c.requires.ready c.requires.known.labels).1)) here c.leave_by-k.auto.lowest c.leave_by-k.auto.far c.leave_by-k.ensures.noted
     (c.residual_at.ensures ∙ residual_picked (bound_network given.n given.s given.t given.tails.now given.heads.now given.capacities.now given.minimums.now) given.flow.now 0 so.i c.leave_by-k.result)
-    c.min-least.ensures (sym (node_at _ so.i so.invariant.node.0) ∙ c.leave_by-k.ensures.far here) place passed
+    c.min-least.ensures (sym (node_at _ so.i so.invariant.node.0) ∙ c.leave_by-k.ensures.far here)
 
 pub returns : goal.returns
 returns c =
