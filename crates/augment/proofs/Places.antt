@@ -1,5 +1,5 @@
 -- The lowest place that leads is the first in a node's list.
-use Prim.Native.Nat.{ℕ, ◌+◌, ◌<◌}
+use Prim.Native.Nat.{ℕ, ◌<◌}
 use mathlib.Core.Path.{◌≡◌, refl, sym, ap, ◌∙◌}
 use mathlib.Core.Logic.{inl, inr}
 use mathlib.Core.Bool.{true, false}
@@ -14,12 +14,6 @@ use Rattle.shortest.specs.Ways.{Ways}
 use Rattle.shortest.specs.Distance.{leads_by, leads_to, next}
 use Rattle.measuring.specs.Visits.{ListOf}
 use Rattle.augment.proofs.Walking.{lowest_unique}
-
-module _ (w : Ways) (row : List ℕ) (d i : ℕ) (l : List ℕ) where
-  -- One place of the list more that does not lead.
-  pub none_more : (p : ℕ) → ((q : ℕ) → q < p → leads_to w row d i (at_place l q) ≡ false) → leads_to w row d i (at_place l p) ≡ false
-      → (q : ℕ) → q < p + 1 → leads_to w row d i (at_place l q) ≡ false
-  none_more p none here q h = by_equal q p (λ e. ap (λ x. leads_to w row d i (at_place l x)) e ∙ here) (λ e. none q (omega arith))
 
 module _ (w : Ways) (row : List ℕ) (d i : ℕ) (l : List ℕ) (is : ListOf w i l) where
   -- An arc that does not touch node i does not lead from it.

@@ -1,14 +1,13 @@
 -- Laws of relabelling: a label that rises as far as the open arcs let it leaves labels labels, and no place below one that is noted leads one nearer.
-use Prim.Native.Nat.{ℕ, suc, ◌+◌, ◌-◌, ◌≤◌, ◌<◌, min}
+use Prim.Native.Nat.{ℕ, suc, ◌+◌, ◌-◌, ◌≤◌, ◌<◌}
 use mathlib.Core.Path.{◌≡◌, refl, sym, ap, subst, ◌∙◌}
 use mathlib.Core.Logic.{◌⊎◌, inl, inr}
-use mathlib.Core.Bool.{Bool, true, false, true≢false, cond}
+use mathlib.Core.Bool.{true, false, true≢false, cond}
 use mathlib.Core.List.{List}
 use native.Mathlib.Omega.{arith}
 use lib.Dec.{ltb}
 use lib.ListN.{length, get_or, set, length-set}
 use Rattle.rows.specs.Row.{at_place, at_node, Node}
-use Rattle.rows.proofs.Rows.{node_at}
 use Rattle.rows.proofs.Sums.{by_test, by_equal}
 use Rattle.reach.proofs.Visiting.{left_test}
 use Rattle.shortest.specs.Ways.{Ways, Leads, ahead, behind, other_end}
@@ -17,20 +16,9 @@ use Rattle.shortest.specs.Labels.{Labels}
 use Rattle.shortest.specs.Rows.{row_ways, Rows}
 use Rattle.shortest.proofs.Ends.{Ends, leads_within}
 use Rattle.shortest.proofs.Laying.{set_there, set_elsewhere}
-use Rattle.shortest.proofs.Chains.{leads_place, leads_to_leads, leads_leads_to}
-use Rattle.measuring.specs.Visits.{ListOf}
+use Rattle.shortest.proofs.Chains.{leads_to_leads, leads_leads_to}
 use Rattle.augment.specs.Walks.{Noted, Known, RiseOver, Rise, Relabelled}
 use Rattle.augment.proofs.Walking.{nowhere_noted}
-
--- ---- `one_above`
-
--- The way is shut,
-pub above_shut : (may : Bool) (x none : ℕ) → may ≡ false → none ≡ cond may x none
-above_shut may x none e = rw e
-
--- or may be walked.
-pub above_open : (dist : List ℕ) (j none : ℕ) (may : Bool) → 1 ≤ j → may ≡ true → get_or dist (j - 1) 0 + 1 ≡ cond may (at_node dist j + 1) none
-above_open dist j none may hj e = rw e (ap (λ x. x + 1) (sym (node_at dist j hj)))
 
 -- ---- `rise_over`
 
@@ -73,10 +61,6 @@ module _ {w : Ways} {n t : ℕ} {row : List ℕ} (low : Labels w n t row) {i k :
 
 module _ {n t : ℕ} {tails heads capacities minimums flow row : List ℕ} (rows : Rows n tails heads capacities minimums flow)
     (low : Labels (row_ways tails heads capacities minimums flow) n t row) {i k : ℕ} (hi : Node n i) (here : k < length capacities) where
-  -- A label is small.
-  pub label_small : (j : ℕ) → Node n j → at_node row j ≤ 514
-  label_small j hj = omega (arith, low.at_most j hj, rows.arcs.ends.few_nodes)
-
   -- The arc has two ends.
   apart : get_or tails k 0 ≡ get_or heads k 0 → ⊥
   apart = rows.arcs.ends.no_loop k (omega (arith, rows.arcs.capacities_long))
@@ -103,34 +87,6 @@ pub record Rising (w : Ways) (n : ℕ) (row list : List ℕ) (i v p : ℕ) : Typ
   pub at_most : v ≤ n
   pub up : at_node row i ≤ v
   pub down : (q j : ℕ) → q < p → Leads w (at_place list q) i j → v ≤ at_node row j + 1
-
--- No arc says anything yet.
-pub rising_start : {w : Ways} {n t : ℕ} {row : List ℕ} → Labels w n t row → (list : List ℕ) {i : ℕ} → Node n i → Rising w n row list i n 0
-rising_start low list {i} hi = record { at_most = omega arith; up = low.at_most i hi; down = λ q j l. absurd (omega arith) }
-
-module _ {w : Ways} {n : ℕ} {row list : List ℕ} {i v p : ℕ} (so : Rising w n row list i v p) where
-  -- One arc more.
-  pub rising_turn : {x y : ℕ} → RiseOver w row i (at_place list p) x → y ≡ min v x → Rising w n row list i y (p + 1)
-  rising_turn {x} {y} over is =
-      record {
-        at_most = omega (arith, so.at_most, is);
-        up = omega (arith, so.up, over.up, is);
-        down = λ q j l lead.
-            by_equal q p
-            (λ e. omega (arith, is, over.down j (subst (λ z. Leads w (at_place list z) i j) e lead)))
-            (λ ne. omega (arith, is, so.down q j (omega arith) lead));
-      }
-
-  -- All arcs have spoken.
-  pub rising_done : ListOf w i list → length list ≤ p → Rise w n row i v
-  rising_done is past = record { at_most = so.at_most; up = so.up; down = λ k j lead. found k j lead (is.all k (leads_place lead) (touching lead)) }
-    where
-      touching : {k j : ℕ} → Leads w k i j → (w.tail_at k ≡ i) ⊎ (w.head_at k ≡ i)
-      touching (ahead l e a b) = inl a
-      touching (behind l e a b) = inr a
-
-      found : (k j : ℕ) → Leads w k i j → ((q : ℕ) × (q < length list) × (at_place list q ≡ k)) → v ≤ at_node row j + 1
-      found k j lead (q, l, e) = so.down q j (omega arith) (subst (λ z. Leads w z i j) (sym e) lead)
 
 -- ---- `relabel`
 

@@ -1,8 +1,8 @@
 -- Laws of the code's walk along the chain.
 use Prim.Native.Nat.{ℕ, zero, suc, ◌+◌, ◌-◌, ◌≤◌, ◌<◌, min}
-use mathlib.Core.Path.{◌≡◌, refl, sym, ap, subst, ◌∙◌}
+use mathlib.Core.Path.{◌≡◌, sym, ap, subst, ◌∙◌}
 use mathlib.Core.Logic.{inl, ⊎_elim}
-use mathlib.Core.Bool.{Bool, true, false, true≢false, cond}
+use mathlib.Core.Bool.{Bool, true, false, true≢false}
 use mathlib.Core.List.{List, [], ◌∷◌, ◌++◌, append_assoc, append-nil}
 use native.Mathlib.Omega.{arith}
 use native.Mathlib.Numerals.{add-one}
@@ -23,27 +23,10 @@ use Rattle.shortest.specs.Rows.{row_ways, Rows}
 use Rattle.shortest.proofs.Ends.{Ends, leads_within}
 use Rattle.shortest.proofs.Laying.{set_there, set_elsewhere, distances_right}
 use Rattle.shortest.proofs.Chains.{LowestIs, lowest_is, found_leads}
-use Rattle.augment.specs.Walks.{NoneBelow, Noted, Known, Walked}
+use Rattle.augment.specs.Walks.{Noted, Known, Walked}
 use Rattle.augment.proofs.Pouring.{far_picked}
 
--- ---- `far_of` and `leads`: away from the tail, away from the head, or neither
-
-module _ (tail i : ℕ) where
-  -- Away from the tail,
-  pub from_tail {ℓ} : {A : Type ℓ} (a b : A) → tail ≡ i → a ≡ cond (eqb tail i) a b
-  from_tail a b e = rw (eq-eqb tail i e)
-
-  -- and not.
-  pub not_from_tail {ℓ} : {A : Type ℓ} (a b : A) → (tail ≡ i → ⊥) → b ≡ cond (eqb tail i) a b
-  not_from_tail a b e = rw (ne_eqb tail i e)
-
--- A row with one of two numbers set.
-pub set_from_tail : (row : List ℕ) (k tail i a b : ℕ) → tail ≡ i → set row k a ≡ set row k (cond (eqb tail i) a b)
-set_from_tail row k tail i a b e = ap (set row k) (from_tail tail i a b e)
-
--- and the other.
-pub set_not_from_tail : (row : List ℕ) (k tail i a b : ℕ) → (tail ≡ i → ⊥) → set row k b ≡ set row k (cond (eqb tail i) a b)
-set_not_from_tail row k tail i a b e = ap (set row k) (not_from_tail tail i a b e)
+-- ---- `leads`: away from the tail, away from the head, or neither
 
 -- The test of `leads`, by its ways out.
 module _ (tail head i : ℕ) (fore back x y : Bool) where
@@ -137,13 +120,6 @@ pub record Walking (N : Network) (flow row chain₀ lowest far chain : List ℕ)
   pub whole : take p chain ++ chain_from (ways_in N flow) row d i ≡ chain_from (ways_in N flow) row (at_node row N.s) N.s
   pub on : arrives (ways_in N flow) row d i ≡ arrives (ways_in N flow) row (at_node row N.s) N.s
   pub value : least_with N flow least i (chain_from (ways_in N flow) row d i) ≡ least_with N flow 4294967295 N.s (chain_from (ways_in N flow) row (at_node row N.s) N.s)
-
--- Nothing is walked yet.
-pub walking_start : (N : Network) (flow row chain lowest far : List ℕ) → Node N.n N.s → length lowest ≡ N.n → length far ≡ N.n → Noted (ways_in N flow) N.n row lowest far
-    → Walking N flow row chain lowest far chain N.s (get_or row (N.s - 1) 0) 4294967295 0
-walking_start N flow row chain lowest far hs long far_long noted =
-    subst (λ d. Walking N flow row chain lowest far chain N.s d 4294967295 0) (node_at row N.s hs.0)
-    (record { long = refl; lowest_long = long; far_long = far_long; noted = noted; count = omega arith; node = hs; at = refl; whole = refl; on = refl; value = refl })
 
 module _ (w : Ways) (row : List ℕ) (e i : ℕ) where
   -- A chain goes on where a place is found,
@@ -285,7 +261,7 @@ unfolding next
 next_most w row d i = ⊎_elim (λ p. omega (arith, p.0)) (λ e. omega arith) (lowest_is (leads_to w row d i) w.places).1
 
 module _ {w : Ways} {n : ℕ} {row lowest far : List ℕ} (noted : Noted w n row lowest far) (d i k : ℕ) (hi : Node n i) (at : at_node row i ≡ d + 1) where
-  -- A place noted that leads one nearer still is the lowest,
+  -- A place noted that leads one nearer still is the lowest.
   pub noted_lowest : k ≡ get_or lowest (i - 1) 0 → k < w.places → leads_to w row d i k ≡ true → k ≡ next w row d i
   unfolding next
   noted_lowest is here leads =
@@ -293,19 +269,6 @@ module _ {w : Ways} {n : ℕ} {row lowest far : List ℕ} (noted : Noted w n row
         (λ p less. noted.none_lower i d p hi (at ∙ add-one d) (omega (arith, node_at lowest i hi.0)) (omega (arith, node_at lowest i hi.0))),
         inl (here, leads),
       )
-
-  -- none below it does,
-  pub noted_none : {from : ℕ} → ((p : ℕ) → p < from → (p < k) × (k < w.places)) → k ≡ get_or lowest (i - 1) 0 → NoneBelow w row d i from
-  noted_none below is p l =
-      let (less, here) = below p l in
-      let same = node_at lowest i hi.0 in
-      noted.none_lower i d p hi (at ∙ add-one d) (omega (arith, same, less, here)) (omega (arith, same, less, here))
-
-  -- and its far end stands beside it.
-  pub noted_far : k ≡ get_or lowest (i - 1) 0 → k < w.places → at_node far i ≡ other_end w i k
-  noted_far is here =
-      let same : at_node lowest i ≡ k = node_at lowest i hi.0 ∙ sym is in
-      noted.far_end i hi (omega arith) ∙ ap (other_end w i) same
 
   module _ (long : length lowest ≡ n) where
     -- What is set there,
@@ -351,10 +314,6 @@ module _ {w : Ways} {n : ℕ} {row lowest far : List ℕ} (noted : Noted w n row
               let same = set_away x hx ne in
               set_elsewhere far i j x hi.0 hx.0 ne ∙ noted.far_end x hx (omega (arith, here, same)) ∙ ap (other_end w x) (sym same));
         }
-
-    -- It stands there.
-    pub far_noted : length far ≡ n → {j : ℕ} → at_node (set far (i - 1) j) i ≡ j
-    far_noted far_long {j} = set_there far i j (subst (λ l. Node l i) (sym far_long) hi)
 
 -- ---- `measure_anew`
 

@@ -1,4 +1,5 @@
 -- What the arc search and the relabel's least label answer.
+use Rattle.std.specs.Prelude.{Option, Some, None}
 use Prim.Native.Nat.{ℕ, ◌+◌, ◌≤◌, ◌<◌, min}
 use mathlib.Core.Path.{◌≡◌, refl, ap, ap₂, sym, subst, ◌∙◌}
 use mathlib.Core.Bool.{Bool, true, false, true≢false, ◌&&◌}
@@ -8,8 +9,7 @@ use mathlib.Core.Logic.{◌⊎◌, inl, inr, ⊎_elim}
 use native.Mathlib.Omega.{arith}
 use borrow.Author.Tests.{ltb-true, ltb-false, lt-ltb, eqb-true, eq-eqb}
 use lib.Dec.{eqb, ltb}
-use Rattle.rows.specs.Row.{at_node, at_place}
-use Rattle.rows.specs.Row.{Node as NodeOf}
+use Rattle.rows.specs.Row.{at_node, at_place, Node}
 use Rattle.rows.proofs.Sums.{by_test, both_true}
 use Rattle.network.specs.Network.{near_end, far_end, residual_over, Sound}
 use Rattle.network.proofs.Notions.{ResidualFrom, far_end_node}
@@ -19,36 +19,34 @@ use Rattle.arcs.specs.Residual.{way, far, residual, list}
 use Rattle.run.specs.Start.{State}
 use Rattle.run.specs.Push.{eligible, first_eligible}
 use Rattle.run.specs.Relabel.{lesser, least_far, top, new_label}
-use Rattle.run.specs.declared.Found.{Found}
-use Rattle.run.specs.declared.Found.TheVariants.{Place, Missing}
 use Rattle.run.proofs.Networks.{functions_of, by_cond}
 use Rattle.arcs.proofs.Members.{list_touches, touches_list, start_way, start_touches, member_start}
 
 module _ (t : Table) (st : State) (i : ℕ) where
   -- What a search of the list l answers: an eligible member, or that there is none.
-  abbrev Finds : List ℕ → Found → Type 0
-  Finds l (Place k) = Memᴰ k l × (eligible t st i k ≡ true)
-  Finds l Missing = (k : ℕ) → Memᴰ k l → eligible t st i k ≡ false
+  abbrev Finds : List ℕ → Option ℕ → Type 0
+  Finds l (Some k) = Memᴰ k l × (eligible t st i k ≡ true)
+  Finds l None = (k : ℕ) → Memᴰ k l → eligible t st i k ≡ false
 
   -- One more place in front, which is not eligible.
-  finds_on : (k : ℕ) (l : List ℕ) (f : Found) → eligible t st i k ≡ false → Finds l f → Finds (k ∷ l) f
-  finds_on k l (Place j) e (member, yes') = (Memᴰ.tail member, yes')
-  finds_on k l Missing e none = λ j member. ⊎_elim (λ same. ap (eligible t st i) same ∙ e) (none j) (Memᴰ.cases_cons member)
+  finds_on : (k : ℕ) (l : List ℕ) (f : Option ℕ) → eligible t st i k ≡ false → Finds l f → Finds (k ∷ l) f
+  finds_on k l (Some j) e (member, yes') = (Memᴰ.tail member, yes')
+  finds_on k l None e none = λ j member. ⊎_elim (λ same. ap (eligible t st i) same ∙ e) (none j) (Memᴰ.cases_cons member)
 
   -- The search for an eligible arc answers so.
   finds : (l : List ℕ) → Finds l (first_eligible t st i l)
   unfolding first_eligible
   finds [] = λ k member. absurd (Memᴰ.not-nil member)
   finds (k ∷ l) =
-      by_cond (Finds (k ∷ l)) (eligible t st i k) (Place k) (first_eligible t st i l)
+      by_cond (Finds (k ∷ l)) (eligible t st i k) (Some k) (first_eligible t st i l)
       (λ e. (Memᴰ.head refl, e)) (λ e. finds_on k l (first_eligible t st i l) e (finds l))
 
   -- The place found is in the list and eligible.
-  pub found_place : (l : List ℕ) (k : ℕ) → first_eligible t st i l ≡ Place k → Memᴰ k l × (eligible t st i k ≡ true)
+  pub found_place : (l : List ℕ) (k : ℕ) → first_eligible t st i l ≡ Some k → Memᴰ k l × (eligible t st i k ≡ true)
   found_place l k e = subst (Finds l) e (finds l)
 
   -- Where none is found no member is eligible.
-  found_missing : (l : List ℕ) → first_eligible t st i l ≡ Missing → (k : ℕ) → Memᴰ k l → eligible t st i k ≡ false
+  found_missing : (l : List ℕ) → first_eligible t st i l ≡ None → (k : ℕ) → Memᴰ k l → eligible t st i k ≡ false
   found_missing l e = subst (Finds l) e (finds l)
 
   -- One place does not raise the least label.
@@ -172,8 +170,8 @@ module _ (t : Table) (sound : Sound (network_of t)) (st : State) (i : ℕ) where
         )
 
   -- The least label is the theory's: no arc is eligible, some arc is residual and labels are below 2n, so one more is the new label.
-  pub least_new_label : first_eligible t st i (list t i) ≡ Missing → ResidualFrom (network_of t) (at_place st.flow) i
-      → ((j : ℕ) → NodeOf t.nodes j → at_node st.label j < top t)
+  pub least_new_label : first_eligible t st i (list t i) ≡ None → ResidualFrom (network_of t) (at_place st.flow) i
+      → ((j : ℕ) → Node t.nodes j → at_node st.label j < top t)
       → NewLabel (network_of t) (functions_of st) i (new_label t st i)
   least_new_label missing out high = ⊎_elim (λ is_top. absurd (never is_top)) answer (least_is t st i (list t i) (top t))
     where

@@ -5,8 +5,7 @@ use mathlib.Core.Bool.{Bool, true, false, not, cond}
 use native.Mathlib.Omega.{arith}
 use lib.Dec.{eqb}
 use Rattle.rows.specs.Sum.{only}
-use Rattle.rows.specs.Row.{at_node, at_place}
-use Rattle.rows.specs.Row.{Node as NodeOf}
+use Rattle.rows.specs.Row.{at_node, at_place, Node}
 use Rattle.rows.proofs.Rows.{length_places, at_places, at_nodes}
 use Rattle.network.specs.Network.{is_inner}
 use Rattle.network.proofs.Steps.{first, first_flow, first_excess}
@@ -54,7 +53,7 @@ start_fits t =
     }
 
 -- The facts hold at the start, at any D that is at least each excess.
-pub start_facts : (t : Table) → Accepted t → (D : ℕ) → ((i : ℕ) → NodeOf t.nodes i → at_node (start t).excess i ≤ D)
+pub start_facts : (t : Table) → Accepted t → (D : ℕ) → ((i : ℕ) → Node t.nodes i → at_node (start t).excess i ≤ D)
     → FactsOf t D (start t)
 start_facts t ok D small =
     facts_agree (network_of t) (accepted_sound t ok) D (first (network_of t)) (functions_of (start t)) (start_agrees t)

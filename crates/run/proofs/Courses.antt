@@ -1,4 +1,5 @@
 -- A phase of the rows is a phase of the theory: it ends with no node to choose.
+use Rattle.std.specs.Prelude.{Option, Some, None}
 use Prim.Native.Nat.{ℕ, zero, suc, ◌+◌, ◌≤◌, ◌<◌}
 use mathlib.Core.Path.{◌≡◌, refl}
 use mathlib.Core.Logic.{◌⊎◌, inl, inr, ⊎_elim}
@@ -9,8 +10,6 @@ use Rattle.table.specs.Accepted.{Accepted}
 use Rattle.run.specs.Choice.{choose}
 use Rattle.run.specs.Phase.{Run, step, phase_for, enough, phase}
 use Rattle.run.specs.Rows.{Fits}
-use Rattle.run.specs.declared.Choice.{Choice}
-use Rattle.run.specs.declared.Choice.TheVariants.{Node, Nothing}
 use Rattle.run.proofs.Networks.{functions_of, FactsOf, accepted_sound, no_minimums}
 use Rattle.run.proofs.Trails.{Trail, no_trail, step_trail}
 
@@ -18,7 +17,7 @@ use Rattle.run.proofs.Trails.{Trail, no_trail, step_trail}
 pub record Led (t : Table) (delta : ℕ) (from to : Run) (least : ℕ) : Type 0 where
   pub size : ℕ
   pub trail : Trail t delta from to size
-  pub done : (least ≤ size) ⊎ (choose t delta to.state ≡ Nothing)
+  pub done : (least ≤ size) ⊎ (choose t delta to.state ≡ None)
 
 module _ (t : Table) (ok : Accepted t) (delta : ℕ) (from : Run) (facts : FactsOf t delta from.state) where
   -- At most `left` steps more.
@@ -29,11 +28,11 @@ module _ (t : Table) (ok : Accepted t) (delta : ℕ) (from : Run) (facts : Facts
       go (choose t delta r.state) refl
       (λ i e. phase_for_led left (step t delta r i) (size + 1) (step_trail t ok delta from facts r size trail i e))
     where
-      go : (c : Choice) → choose t delta r.state ≡ c
-          → ((i : ℕ) → choose t delta r.state ≡ Node i → Led t delta from (phase_for t delta left (step t delta r i)) (size + 1 + left))
-          → Led t delta from (elim c as (λ _. Run) [ Nothing ↦ r | Node i ↦ phase_for t delta left (step t delta r i) ]) (size + suc left)
-      go Nothing e on = record { size = size; trail = trail; done = inr e }
-      go (Node i) e on =
+      go : (c : Option ℕ) → choose t delta r.state ≡ c
+          → ((i : ℕ) → choose t delta r.state ≡ Some i → Led t delta from (phase_for t delta left (step t delta r i)) (size + 1 + left))
+          → Led t delta from (elim c as (λ _. Run) [ None ↦ r | Some i ↦ phase_for t delta left (step t delta r i) ]) (size + suc left)
+      go None e on = record { size = size; trail = trail; done = inr e }
+      go (Some i) e on =
           let led : Led t delta from (phase_for t delta left (step t delta r i)) (size + 1 + left) = on i e in
           record { size = led.size; trail = led.trail; done = ⊎_elim (λ l. inl (omega arith)) inr led.done }
 
@@ -48,12 +47,12 @@ module _ (t : Table) (ok : Accepted t) (delta : ℕ) (from : Run) (facts : Facts
         )
 
     -- After that many there is no node to choose.
-    spent : (r : Run) (size : ℕ) → Trail t delta from r size → enough t ≤ size → choose t delta r.state ≡ Nothing
+    spent : (r : Run) (size : ℕ) → Trail t delta from r size → enough t ≤ size → choose t delta r.state ≡ None
     spent r size trail all = go (choose t delta r.state) refl
       where
-        go : (c : Choice) → choose t delta r.state ≡ c → choose t delta r.state ≡ Nothing
-        go Nothing e = e
-        go (Node i) e =
+        go : (c : Option ℕ) → choose t delta r.state ≡ c → choose t delta r.state ≡ None
+        go None e = e
+        go (Some i) e =
             absurd (omega (arith, trail_short (step t delta r i) (size + 1) (step_trail t ok delta from facts r size trail i e)))
 
     module _ (fits : Fits t from.state) where
@@ -65,5 +64,5 @@ module _ (t : Table) (ok : Accepted t) (delta : ℕ) (from : Run) (facts : Facts
           record { size = led.size; trail = led.trail; done = ⊎_elim (λ l. inl (omega arith)) inr led.done }
 
       -- with no node to choose at its end.
-      pub phase_ended : choose t delta (phase t delta from).state ≡ Nothing
+      pub phase_ended : choose t delta (phase t delta from).state ≡ None
       phase_ended = ⊎_elim (spent (phase t delta from) phase_led.size phase_led.trail) (λ e. e) phase_led.done

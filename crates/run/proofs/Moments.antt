@@ -1,9 +1,10 @@
 -- What code that follows the run needs at each moment: the rows in order before each step, and how the phase goes on.
+use Rattle.std.specs.Prelude.{Some, None}
 use Prim.Native.Nat.{ℕ, zero, suc, ◌+◌, ◌-◌, ◌*◌, ◌^◌, ◌≤◌, ◌<◌}
 use mathlib.Core.Path.{◌≡◌, refl, ap, sym, ◌∙◌}
 use native.Mathlib.Omega.{arith}
 use native.Mathlib.Nat.{mul-le-mul}
-use Rattle.rows.specs.Row.{Node as NodeOf}
+use Rattle.rows.specs.Row.{Node}
 use Rattle.network.proofs.Bounds.{saturating_in_all, relabels_in_all, nonsaturating_in_all}
 use Rattle.table.specs.Table.{Table, arcs, network_of}
 use Rattle.table.specs.Accepted.{Accepted}
@@ -12,7 +13,6 @@ use Rattle.run.specs.Scale.{phase_count, scale}
 use Rattle.run.specs.Choice.{choose}
 use Rattle.run.specs.Phase.{Run, step, phase_for, enough, phase, delta_after, after}
 use Rattle.run.specs.Rows.{steps, Fits, InPhase}
-use Rattle.run.specs.declared.Choice.TheVariants.{Node, Nothing}
 use Rattle.run.proofs.Networks.{functions_of, FactsOf, accepted_sound, no_minimums}
 use Rattle.run.proofs.Choices.{choose_chosen}
 use Rattle.run.proofs.Trails.{Trail, no_trail, step_trail, trail_facts}
@@ -35,16 +35,16 @@ pub record Moment (t : Table) (d : ℕ) (now : Run) (size : ℕ) : Type 0 where
   pub rest : after t (suc d) ≡ phase_for t (delta_after t d) (enough t - size) now
 
 -- One step of what is left.
-phase_for_step : (t : Table) (delta left : ℕ) (r : Run) (i : ℕ) → choose t delta r.state ≡ Node i
+phase_for_step : (t : Table) (delta left : ℕ) (r : Run) (i : ℕ) → choose t delta r.state ≡ Some i
     → phase_for t delta (suc left) r ≡ phase_for t delta left (step t delta r i)
 unfolding phase_for
-phase_for_step t delta left r i e = ap (λ c. elim c as (λ _. Run) [ Nothing ↦ r | Node i ↦ phase_for t delta left (step t delta r i) ]) e
+phase_for_step t delta left r i e = ap (λ c. elim c as (λ _. Run) [ None ↦ r | Some i ↦ phase_for t delta left (step t delta r i) ]) e
 
 -- Nothing is left where no node is to be chosen.
-phase_for_end : (t : Table) (delta left : ℕ) (r : Run) → choose t delta r.state ≡ Nothing → phase_for t delta left r ≡ r
+phase_for_end : (t : Table) (delta left : ℕ) (r : Run) → choose t delta r.state ≡ None → phase_for t delta left r ≡ r
 unfolding phase_for
 phase_for_end t delta zero r e = refl
-phase_for_end t delta (suc left) r e = ap (λ c. elim c as (λ _. Run) [ Nothing ↦ r | Node i ↦ phase_for t delta left (step t delta r i) ]) e
+phase_for_end t delta (suc left) r e = ap (λ c. elim c as (λ _. Run) [ None ↦ r | Some i ↦ phase_for t delta left (step t delta r i) ]) e
 
 module _ (t : Table) (ok : Accepted t) (d : ℕ) (l : d < phase_count t) where
   -- The phases before it.
@@ -68,11 +68,11 @@ module _ (t : Table) (ok : Accepted t) (d : ℕ) (l : d < phase_count t) where
     moment_in_phase = facts_in_phase t ok (delta_after t d) now.state moment.trail.fits moment_facts
 
     -- A node is chosen: it is one of 1 to n,
-    pub moment_node : (i : ℕ) → choose t (delta_after t d) now.state ≡ Node i → NodeOf t.nodes i
+    pub moment_node : (i : ℕ) → choose t (delta_after t d) now.state ≡ Some i → Node t.nodes i
     moment_node i e = (choose_chosen t (delta_after t d) now.state i e).node
 
     -- a step is left, and the step at it leads to the next moment.
-    pub moment_step : (i : ℕ) → choose t (delta_after t d) now.state ≡ Node i
+    pub moment_step : (i : ℕ) → choose t (delta_after t d) now.state ≡ Some i
         → (size < enough t) × Moment t d (step t (delta_after t d) now i) (size + 1)
     moment_step i e =
         let delta : ℕ = delta_after t d in
@@ -89,7 +89,7 @@ module _ (t : Table) (ok : Accepted t) (d : ℕ) (l : d < phase_count t) where
         )
 
     -- None is: the phase has ended.
-    pub moment_end : choose t (delta_after t d) now.state ≡ Nothing → now ≡ after t (suc d)
+    pub moment_end : choose t (delta_after t d) now.state ≡ None → now ≡ after t (suc d)
     moment_end e = sym (moment.rest ∙ phase_for_end t (delta_after t d) (enough t - size) now e)
 
     -- So far there are fewer than 2^32 steps.

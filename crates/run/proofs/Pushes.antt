@@ -5,9 +5,8 @@ use mathlib.Core.Bool.{Bool, true, false, cond}
 use mathlib.Core.List.{List, Memᴰ}
 use native.Mathlib.Omega.{arith}
 use lib.ListN.{length, set, length-set}
-use Rattle.rows.specs.Row.{at_node, at_place}
+use Rattle.rows.specs.Row.{at_node, at_place, Node}
 use Rattle.rows.proofs.Functions.{put}
-use Rattle.rows.specs.Row.{Node as NodeOf}
 use Rattle.rows.proofs.Sums.{put_other}
 use Rattle.rows.proofs.Rows.{place_set, node_set, put_self}
 use Rattle.network.specs.Network.{residual_over, is_inner, Sound}
@@ -29,7 +28,7 @@ functions_equal : {f g e d l k : ℕ → ℕ} → f ≡ g → e ≡ d → l ≡ 
 functions_equal p q r = λ x. record { flow = p x; excess = q x; label = r x }
 
 module _ (t : Table) (excess : List ℕ) (i j d : ℕ)
-    (here : NodeOf (length excess) i) (there : NodeOf (length excess) j) (apart : j ≡ i → ⊥) where
+    (here : Node (length excess) i) (there : Node (length excess) j) (apart : j ≡ i → ⊥) where
   -- The excess row after d is taken from i, as a function.
   abbrev lowered : ℕ → ℕ
   lowered = put (at_node excess) i (at_node excess i - d)
@@ -63,14 +62,14 @@ module _ (t : Table) (excess : List ℕ) (i j d : ℕ)
       kept : is_inner (network_of t) j ≡ false → at_node left ≡ carried
       kept e = left_same ∙ sym (put_self lowered j) ∙ ap (put lowered j) far_kept ∙ by_kind false e
 
-module _ (t : Table) (sound : Sound (network_of t)) (st : State) (fits : Fits t st) (i : ℕ) (v : NodeOf t.nodes i) where
+module _ (t : Table) (sound : Sound (network_of t)) (st : State) (fits : Fits t st) (i : ℕ) (v : Node t.nodes i) where
   module _ (k : ℕ) (member : Memᴰ k (list t i)) where
     -- The place is one of the table's,
     below : k < arcs t
     below = (list_touches t i member).0
 
     -- and the far end is a node.
-    far_node : NodeOf t.nodes (far t i k)
+    far_node : Node t.nodes (far t i k)
     far_node = far_end_node (network_of t) sound k (way t i k) below
 
     -- It is not i.

@@ -1,4 +1,5 @@
 -- One step of the rows is one step of the theory, counted alike.
+use Rattle.std.specs.Prelude.{Option, Some, None}
 use Prim.Native.Nat.{ℕ, ◌+◌, ◌<◌, min}
 use mathlib.Core.Path.{◌≡◌, refl, ap, sym, subst, ◌∙◌}
 use mathlib.Core.Bool.{Bool, true, false, cond}
@@ -20,9 +21,6 @@ use Rattle.run.specs.Push.{first_eligible, amount, saturates, push}
 use Rattle.run.specs.Relabel.{new_label}
 use Rattle.run.specs.Phase.{Run, step_at, step}
 use Rattle.run.specs.Rows.{Fits}
-use Rattle.run.specs.declared.Choice.TheVariants.{Node}
-use Rattle.run.specs.declared.Found.{Found}
-use Rattle.run.specs.declared.Found.TheVariants.{Place, Missing}
 use Rattle.arcs.proofs.Members.{member_start}
 use Rattle.run.proofs.Networks.{functions_of, FactsOf, accepted_sound, no_minimums}
 use Rattle.run.proofs.Choices.{choose_chosen}
@@ -102,7 +100,7 @@ module _ (t : Table) (ok : Accepted t) (delta : ℕ) (from : Run) (facts : Facts
           (nonsaturating trail.steps k (way t i k) near arc (not_all _ _ _ (λ p. eqb-false _ _ e (moves_same ∙ p))))
 
       -- and so the push goes on with the trail.
-      push_trail : Trail t delta from (step_at t delta r i (Place k)) (size + 1)
+      push_trail : Trail t delta from (step_at t delta r i (Some k)) (size + 1)
       unfolding step_at
       push_trail =
           record {
@@ -128,7 +126,7 @@ module _ (t : Table) (ok : Accepted t) (delta : ℕ) (from : Run) (facts : Facts
           one false = refl
 
     -- Where no arc of node i's list is eligible, its new label is the theory's.
-    stuck_label : first_eligible t r.state i (list t i) ≡ Missing → NewLabel (network_of t) (functions_of r.state) i (new_label t r.state i)
+    stuck_label : first_eligible t r.state i (list t i) ≡ None → NewLabel (network_of t) (functions_of r.state) i (new_label t r.state i)
     stuck_label missing = least_new_label t (accepted_sound t ok) r.state i missing out trail_facts.highest
       where
         out : ResidualFrom (network_of t) (functions_of r.state).flow i
@@ -137,7 +135,7 @@ module _ (t : Table) (ok : Accepted t) (delta : ℕ) (from : Run) (facts : Facts
             (no_minimums t) i chosen.node (omega (arith, chosen.large))
 
     -- A relabel where no arc of node i's list is eligible is the theory's relabel.
-    relabel_trail : first_eligible t r.state i (list t i) ≡ Missing → Trail t delta from (step_at t delta r i Missing) (size + 1)
+    relabel_trail : first_eligible t r.state i (list t i) ≡ None → Trail t delta from (step_at t delta r i None) (size + 1)
     unfolding step_at
     relabel_trail missing =
         record {
@@ -156,18 +154,18 @@ module _ (t : Table) (ok : Accepted t) (delta : ℕ) (from : Run) (facts : Facts
         }
 
     -- What is done at the chosen node goes on with the trail.
-    at_trail : (f : Found) → first_eligible t r.state i (list t i) ≡ f → Trail t delta from (step_at t delta r i f) (size + 1)
-    at_trail (Place k) e =
+    at_trail : (f : Option ℕ) → first_eligible t r.state i (list t i) ≡ f → Trail t delta from (step_at t delta r i f) (size + 1)
+    at_trail (Some k) e =
         let (member, arc) = found_place t r.state i (list t i) k e in
         push_trail k member (eligible_arc t (accepted_sound t ok) r.state i k member arc)
-    at_trail Missing e = relabel_trail e
+    at_trail None e = relabel_trail e
 
   -- The new label of a chosen node that is stuck.
-  pub new_label_lem : (i : ℕ) → choose t delta r.state ≡ Node i → first_eligible t r.state i (list t i) ≡ Missing
+  pub new_label_lem : (i : ℕ) → choose t delta r.state ≡ Some i → first_eligible t r.state i (list t i) ≡ None
       → NewLabel (network_of t) (functions_of r.state) i (new_label t r.state i)
   new_label_lem i e missing = stuck_label i (choose_chosen t delta r.state i e) missing
 
   -- One more step: the node chosen, and what is done there.
-  pub step_trail : (i : ℕ) → choose t delta r.state ≡ Node i → Trail t delta from (step t delta r i) (size + 1)
+  pub step_trail : (i : ℕ) → choose t delta r.state ≡ Some i → Trail t delta from (step t delta r i) (size + 1)
   unfolding step
   step_trail i e = at_trail i (choose_chosen t delta r.state i e) (first_eligible t r.state i (list t i)) refl

@@ -1,4 +1,5 @@
 -- The whole run of an accepted table: whole phases of the theory down to Delta = 0.
+use Rattle.std.specs.Prelude.{Some, None}
 use Prim.Native.Nat.{ℕ, zero, suc, ◌+◌, ◌-◌, ◌*◌, ◌/◌, ◌≤◌, ◌<◌}
 use mathlib.Core.Path.{◌≡◌, ap, subst, ◌∙◌}
 use mathlib.Core.List.{List, [], ◌∷◌}
@@ -19,8 +20,6 @@ use Rattle.run.specs.Scale.{largest, scale_of, phase_count, scale}
 use Rattle.arcs.specs.Residual.{list}
 use Rattle.run.specs.Choice.{choose}
 use Rattle.run.specs.Push.{first_eligible}
-use Rattle.run.specs.declared.Choice.TheVariants.{Node, Nothing}
-use Rattle.run.specs.declared.Found.TheVariants.{Missing}
 use Rattle.run.specs.Phase.{Run, phase_for, enough, phase, no_steps, delta_after, after, during, run}
 use Rattle.run.specs.Demands.{Scaled, OneAbove, Bounded}
 use Rattle.run.specs.Rows.{Fits}
@@ -180,15 +179,15 @@ module _ (t : Table) (ok : Accepted t) where
       )
 
   -- Each phase ends with no node to choose.
-  phase_end : (d : ℕ) → d < phase_count t → choose t (delta_after t d) (after t (suc d)).state ≡ Nothing
+  phase_end : (d : ℕ) → d < phase_count t → choose t (delta_after t d) (after t (suc d)).state ≡ None
   unfolding after
   phase_end d l =
       let before : Course t d = course d (omega arith) in
       phase_ended t ok (delta_after t d) (after t d) (course_facts d before) (delta_positive d l) before.fits
 
   -- A chosen node that is stuck finds its new label at a residual arc.
-  stuck_above : (d j i : ℕ) → d < phase_count t → choose t (delta_after t d) (during t d j) ≡ Node i
-      → first_eligible t (during t d j) i (list t i) ≡ Missing → OneAbove t (during t d j) i
+  stuck_above : (d j i : ℕ) → d < phase_count t → choose t (delta_after t d) (during t d j) ≡ Some i
+      → first_eligible t (during t d j) i (list t i) ≡ None → OneAbove t (during t d j) i
   stuck_above d j i l e missing =
       let before : Course t d = course d (omega arith) in
       let facts = course_facts d before in

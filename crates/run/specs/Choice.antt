@@ -1,10 +1,8 @@
 -- Document 01, "The run", step 1: the node with 2 x excess > Delta and the least label; among equals, the least number.
-use Rattle.std.specs.Prelude.{ℕ, zero, suc, ◌*◌, Bool, cond, List, ltb}
+use Rattle.std.specs.Prelude.{ℕ, zero, suc, ◌*◌, Bool, cond, List, ltb, Option, Some, None}
 use Rattle.rows.specs.Row.{at_node}
 use Rattle.table.specs.Table.{Table}
 use Rattle.run.specs.Start.{State}
-use Rattle.run.specs.declared.Choice.{Choice}
-use Rattle.run.specs.declared.Choice.TheVariants.{Node, Nothing}
 
 -- Whether 2 x excess of node i is above Delta.
 abbrev pub large : ℕ → List ℕ → ℕ → Bool
@@ -15,19 +13,19 @@ abbrev pub is_less : List ℕ → (i b : ℕ) → Bool
 is_less label i b = ltb (at_node label i) (at_node label b)
 
 -- The choice so far, or node i where its label is less.
-abbrev pub lower : List ℕ → Choice → ℕ → Choice
-lower label Nothing i = Node i
-lower label (Node b) i = cond (is_less label i b) (Node i) (Node b)
+abbrev pub lower : List ℕ → Option ℕ → ℕ → Option ℕ
+lower label None i = Some i
+lower label (Some b) i = cond (is_less label i b) (Some i) (Some b)
 
 -- The choice among nodes 1 to i.
-unfoldable pub choose_to : ℕ → List ℕ → List ℕ → ℕ → Choice
-choose_to delta excess label zero = Nothing
+unfoldable pub choose_to : ℕ → List ℕ → List ℕ → ℕ → Option ℕ
+choose_to delta excess label zero = None
 choose_to delta excess label (suc i) =
     cond (large delta excess (suc i))
     (lower label (choose_to delta excess label i) (suc i))
     (choose_to delta excess label i)
 
 -- The choice among all nodes.
-unfoldable pub choose : Table → ℕ → State → Choice
+unfoldable pub choose : Table → ℕ → State → Option ℕ
 unfolding choose_to
 choose t delta st = choose_to delta st.excess st.label t.nodes

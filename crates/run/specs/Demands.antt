@@ -1,5 +1,5 @@
 -- What is asked of a solved table: a largest flow with its smallest least cut (demand 2), and the bounds of the run (demand 3).
-use Rattle.std.specs.Prelude.{ℕ, suc, ◌+◌, ◌*◌, ◌^◌, ◌≤◌, ◌<◌, ◌≡◌, Bool, List}
+use Rattle.std.specs.Prelude.{ℕ, suc, ◌+◌, ◌*◌, ◌^◌, ◌≤◌, ◌<◌, ◌≡◌, Bool, List, Some, None}
 use Rattle.rows.specs.Row.{at_place, at_node}
 use Rattle.network.specs.Network.{Value, leaving, near_end, far_end, residual_over, Reached, Answer}
 use Rattle.table.specs.Table.{Table, arcs, capacity, network_of}
@@ -11,8 +11,6 @@ use Rattle.run.specs.Choice.{choose}
 use Rattle.run.specs.Push.{first_eligible}
 use Rattle.run.specs.Relabel.{new_label}
 use Rattle.run.specs.Phase.{delta_after, after, during}
-use Rattle.run.specs.declared.Choice.TheVariants.{Node, Nothing}
-use Rattle.run.specs.declared.Found.TheVariants.{Missing}
 use Rattle.run.specs.declared.Counts.{Counts}
 
 -- Demand 2: the flow is largest and the side the smallest least cut; the side is exactly what the source reaches over residual arcs;
@@ -50,6 +48,6 @@ pub record Bounded (t : Table) (D K : ℕ) (counts : Counts) : Type 0 where
   pub nonsaturating : counts.nonsaturating ≤ 4 * (t.nodes * t.nodes) * K
   pub relabels : counts.relabels ≤ 2 * (t.nodes * t.nodes)
   pub in_phase : (d : ℕ) → d < K → (after t (suc d)).counts.nonsaturating ≤ (after t d).counts.nonsaturating + 4 * (t.nodes * t.nodes)
-  pub ended : (d : ℕ) → d < K → choose t (delta_after t d) (after t (suc d)).state ≡ Nothing
-  pub relabelled : (d j i : ℕ) → d < K → choose t (delta_after t d) (during t d j) ≡ Node i
-      → first_eligible t (during t d j) i (list t i) ≡ Missing → OneAbove t (during t d j) i
+  pub ended : (d : ℕ) → d < K → choose t (delta_after t d) (after t (suc d)).state ≡ None
+  pub relabelled : (d j i : ℕ) → d < K → choose t (delta_after t d) (during t d j) ≡ Some i
+      → first_eligible t (during t d j) i (list t i) ≡ None → OneAbove t (during t d j) i

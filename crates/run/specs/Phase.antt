@@ -1,5 +1,5 @@
 -- Document 01, "The run": steps with their counts, phases, and the whole run.
-use Rattle.std.specs.Prelude.{ℕ, zero, suc, ◌+◌, ◌-◌, ◌*◌, Bool, cond, List}
+use Rattle.std.specs.Prelude.{ℕ, zero, suc, ◌+◌, ◌-◌, ◌*◌, Option, Some, None, Bool, cond, List}
 use Rattle.rows.specs.Row.{at_place}
 use Rattle.network.specs.Network.{inflow, outflow}
 use Rattle.table.specs.Table.{Table, arcs, network_of}
@@ -10,9 +10,6 @@ use Rattle.run.specs.Choice.{choose}
 use Rattle.run.specs.Push.{first_eligible, saturates, push}
 use Rattle.run.specs.Relabel.{relabel}
 use Rattle.run.specs.declared.Counts.{Counts}
-use Rattle.run.specs.declared.Choice.TheVariants.{Node, Nothing}
-use Rattle.run.specs.declared.Found.{Found}
-use Rattle.run.specs.declared.Found.TheVariants.{Place, Missing}
 
 -- A state, and how many steps of each kind led to it.
 pub record Run : Type 0 where
@@ -37,11 +34,11 @@ abbrev pub one_relabel : Counts → Counts
 one_relabel c = record { saturating = c.saturating; nonsaturating = c.nonsaturating; relabels = c.relabels + 1 }
 
 -- At node i: a push along the arc that was found, or a relabel if there is none.
-unfoldable pub step_at : Table → ℕ → Run → ℕ → Found → Run
+unfoldable pub step_at : Table → ℕ → Run → ℕ → Option ℕ → Run
 unfolding push relabel
-step_at t delta r i (Place k) =
+step_at t delta r i (Some k) =
     record { state = push t delta r.state i k; counts = one_push r.counts (saturates t delta r.state i k) }
-step_at t delta r i Missing = record { state = relabel t r.state i; counts = one_relabel r.counts }
+step_at t delta r i None = record { state = relabel t r.state i; counts = one_relabel r.counts }
 
 -- One step at the chosen node i.
 unfoldable pub step : Table → ℕ → Run → ℕ → Run
@@ -52,7 +49,7 @@ step t delta r i = step_at t delta r i (first_eligible t r.state i (list t i))
 unfoldable pub phase_for : Table → ℕ → ℕ → Run → Run
 unfolding choose step
 phase_for t delta zero r = r
-phase_for t delta (suc left) r = elim (choose t delta r.state) [ Nothing ↦ r | Node i ↦ phase_for t delta left (step t delta r i) ]
+phase_for t delta (suc left) r = elim (choose t delta r.state) [ None ↦ r | Some i ↦ phase_for t delta left (step t delta r i) ]
 
 -- More steps than a phase takes (proved: phase_ended).
 abbrev pub enough : Table → ℕ

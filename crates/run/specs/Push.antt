@@ -1,12 +1,10 @@
 -- Document 01, "The run", step 2: the first arc that fits, and the push along it.
-use Rattle.std.specs.Prelude.{ℕ, ◌+◌, ◌-◌, min, Bool, cond, ◌&&◌, List, [], ◌∷◌, eqb, ltb, set}
+use Rattle.std.specs.Prelude.{ℕ, ◌+◌, ◌-◌, min, Bool, cond, ◌&&◌, List, [], ◌∷◌, eqb, ltb, set, Option, Some, None}
 use Rattle.rows.specs.Row.{at_place, at_node}
 use Rattle.network.specs.Network.{is_inner}
 use Rattle.table.specs.Table.{Table, network_of}
 use Rattle.arcs.specs.Residual.{way, far, residual}
 use Rattle.run.specs.Start.{State}
-use Rattle.run.specs.declared.Found.{Found}
-use Rattle.run.specs.declared.Found.TheVariants.{Place, Missing}
 
 -- Whether the arc at place k, away from i, has residual above 0 and a far end whose label is exactly one less.
 abbrev pub eligible : Table → State → ℕ → ℕ → Bool
@@ -14,9 +12,9 @@ eligible t st i k =
     ltb 0 (residual t st.flow i k) && eqb (at_node st.label (far t i k) + 1) (at_node st.label i)
 
 -- The first such arc in a list.
-unfoldable pub first_eligible : Table → State → ℕ → List ℕ → Found
-first_eligible t st i [] = Missing
-first_eligible t st i (k ∷ ks) = cond (eligible t st i k) (Place k) (first_eligible t st i ks)
+unfoldable pub first_eligible : Table → State → ℕ → List ℕ → Option ℕ
+first_eligible t st i [] = None
+first_eligible t st i (k ∷ ks) = cond (eligible t st i k) (Some k) (first_eligible t st i ks)
 
 -- What is pushed: min(excess, residual, Delta - excess of the far end).
 abbrev pub amount : Table → ℕ → State → ℕ → ℕ → ℕ

@@ -3,17 +3,15 @@ use Prim.Native.Nat.{ℕ, ◌+◌, ◌-◌, ◌^◌, ◌≤◌, ◌<◌, min}
 use native.Mathlib.Omega.{arith}
 use mathlib.Core.Path.{◌≡◌, sym, ap, ◌∙◌}
 use mathlib.Core.List.{List, []}
-use lib.ListN.{length, set}
+use lib.ListN.{length}
 use lib.Dec.{eqb}
 use borrow.Author.Tests.{eq-eqb, ne_eqb}
 use native.Mathlib.Nat.{min-le_left, min-le_right}
 use Rattle.rows.specs.Row.{Node, at_place, at_node}
 use Rattle.rows.proofs.Sums.{by_equal}
 use Rattle.rows.proofs.Rows.{node_at}
-use Rattle.network.proofs.Notions.{source_test, sink_test}
 use Rattle.rows.proofs.Rows.{total_two}
-use Rattle.run.proofs.Networks.{inner_other}
-use Rattle.table.specs.Table.{Table, table_of, network_of}
+use Rattle.table.specs.Table.{Table, table_of}
 use Rattle.table.specs.Accepted.{ArcRows}
 use Rattle.arcs.specs.Residual.{far, residual}
 use Rattle.run.specs.Start.{State}
@@ -22,21 +20,6 @@ use Rattle.run.specs.Rows.{state_of, WithinCapacities}
 use Rattle.rows.specs.Sum.{total}
 use Rattle.steps.specs.Rows.{Pushed}
 use Rattle.steps.proofs.Searching.{far_node}
-
-module _ (t : Table) (excess : List ℕ) (i j d : ℕ) (held : ℕ) (left : List ℕ)
-    (was : held ≡ at_node excess i) (lowered : left ≡ set excess (i - 1) (held - d)) where
-  -- What goes to the source is not held there.
-  pub moved_source : j ≡ t.source → left ≡ moved t excess i j d
-  moved_source e = rw (source_test (network_of t) j e, lowered, was)
-
-  -- Nor at the sink.
-  pub moved_sink : j ≡ t.sink → left ≡ moved t excess i j d
-  moved_sink e = rw (sink_test (network_of t) j e, lowered, was)
-
-  -- What goes to any other node is added there.
-  pub moved_inner : (there : ℕ) (after : List ℕ) → (j ≡ t.source → ⊥) → (j ≡ t.sink → ⊥)
-      → there ≡ at_node left j → after ≡ set left (j - 1) (there + d) → after ≡ moved t excess i j d
-  moved_inner there after ns nt et ea = rw (inner_other t j ns nt, ea, et, lowered, was)
 
 -- ---- a push asks nothing more than that the rows are in order and the excesses together fit 32 bits
 

@@ -1,25 +1,22 @@
 -- Laws of the arc search and of the relabel's least label, one place at a time.
-use Prim.Native.Nat.{ℕ, zero, suc, ◌+◌, ◌-◌, ◌≤◌, ◌<◌, min}
+use Rattle.std.specs.Prelude.{Some, None}
+use Prim.Native.Nat.{ℕ, zero, suc, ◌+◌, ◌≤◌, ◌<◌}
 use native.Mathlib.Numerals.{add-one}
 use native.Mathlib.Omega.{arith}
 use mathlib.Core.Path.{◌≡◌, refl, sym, ap, ◌∙◌, subst, subst⁻¹}
-use mathlib.Core.Bool.{Bool, true, false, ◌&&◌}
+use mathlib.Core.Bool.{Bool, true, false}
 use mathlib.Core.List.{List}
 use lib.ListN.{length, drop, drop_of_length-le}
 use lib.Seq.{drop-cons}
-use lib.Dec.{ltb}
-use borrow.Author.Tests.{lt-ltb, eq-eqb, ne_eqb, eqb-true}
 use Rattle.rows.specs.Row.{Node, at_place, at_node}
 use Rattle.rows.proofs.Sums.{by_equal, by_order}
 use Rattle.network.specs.Network.{far_end}
 use Rattle.table.specs.Table.{Table, table_of, network_of, tail, head}
 use Rattle.table.specs.Accepted.{ArcRows}
-use Rattle.arcs.specs.Residual.{way, far, residual, touches}
+use Rattle.arcs.specs.Residual.{way, far, residual}
 use Rattle.run.specs.Start.{State}
 use Rattle.run.specs.Push.{eligible, first_eligible}
 use Rattle.run.specs.Relabel.{lesser, least_far}
-use Rattle.run.specs.declared.Found.TheVariants.{Place, Missing}
-use Rattle.run.proofs.Networks.{by_cond}
 use Rattle.run.proofs.Arcs.{lesser_le, lesser_far}
 use Rattle.looking.specs.Looked.{NoneBefore, HighBefore}
 
@@ -39,48 +36,6 @@ far_node {n} {k} {tails} {heads} {capacities} s t i rows l j e =
     (far_either (Node n) (table_of n s t tails heads capacities) i k
     (rows.ends.head_node k (omega (arith, rows.capacities_long))) (rows.ends.tail_node k (omega (arith, rows.capacities_long))))
 
--- Of an arc that touches i the far end is what both ends add up to, less i.
-pub far_sum : (t : Table) (i k : ℕ) → touches t i k ≡ true → (i ≤ tail t k + head t k) × ((tail t k + head t k) - i ≡ far t i k)
-far_sum t i k e =
-    by_equal (tail t k) i
-    (λ is. (omega arith, rw (eq-eqb (tail t k) i is) (omega arith)))
-    (λ ne.
-    let is : head t k ≡ i = eqb-true (head t k) i (rw (ne_eqb (tail t k) i ne) at e) in
-    (omega arith, rw (ne_eqb (tail t k) i ne) (omega arith)))
-
--- A test and one that holds, and a test and one that fails.
-and_true : (b : Bool) → b ≡ b && true
-and_true true = refl
-and_true false = refl
-
-and_false : (b : Bool) → false ≡ b && false
-and_false true = refl
-and_false false = refl
-
-module _ (t : Table) (st : State) (i k a : ℕ) (there : a ≡ at_node st.label (far t i k)) where
-  -- An arc whose far end's label is not one less than i's is not eligible.
-  pub eligible_level : (b : ℕ) → b ≡ at_node st.label i → (a + 1 ≡ b → ⊥) → false ≡ eligible t st i k
-  eligible_level b here ne =
-      rw (ne_eqb (at_node st.label (far t i k) + 1) (at_node st.label i) (λ e. ne (omega arith))) (and_false (ltb 0 (residual t st.flow i k)))
-
-  -- Any other is where it has residual.
-  pub eligible_down : (b r : ℕ) → b ≡ at_node st.label i → a + 1 ≡ b → r ≡ residual t st.flow i k → ltb 0 r ≡ eligible t st i k
-  eligible_down b r here is left =
-      rw (eq-eqb (at_node st.label (far t i k) + 1) (at_node st.label i) (omega arith), left) (and_true (ltb 0 (residual t st.flow i k)))
-
-  -- An arc whose far end's label is not below it leaves the least label,
-  pub lesser_high : (best : ℕ) → best ≤ a → best ≡ lesser t st i k best
-  lesser_high best l =
-      by_cond (λ (x : ℕ). best ≡ x) (ltb 0 (residual t st.flow i k)) (min best (at_node st.label (far t i k))) best (λ _. omega arith) (λ _. refl)
-
-  -- and so does one with no residual,
-  pub lesser_none : (best r : ℕ) → r ≡ residual t st.flow i k → r ≡ 0 → best ≡ lesser t st i k best
-  lesser_none best r e z = rw (sym e ∙ z)
-
-  -- any other takes it down.
-  pub lesser_some : (best r : ℕ) → r ≡ residual t st.flow i k → (r ≡ 0 → ⊥) → a < best → a ≡ lesser t st i k best
-  lesser_some best r e nz l = rw (lt-ltb 0 (residual t st.flow i k) (omega (arith, nz))) (omega arith)
-
 -- The position where the least label is met is not past the one that is looked at.
 pub met_within : (least label at new j : ℕ) → at ≤ j → (label < least → new ≡ j) × (least ≤ label → new ≡ at) → new ≤ j
 met_within least label at new j l met =
@@ -89,7 +44,7 @@ met_within least label at new j l met =
 module _ (t : Table) (st : State) (i : ℕ) (places : List ℕ) (j : ℕ) where
   -- An eligible place is found where it stands.
   pub search_here : j < length places → true ≡ eligible t st i (at_place places j)
-      → first_eligible t st i (drop j places) ≡ Place (at_place places j)
+      → first_eligible t st i (drop j places) ≡ Some (at_place places j)
   unfolding first_eligible
   search_here h e = rw (drop-cons places j 0 h, ← e)
 
@@ -100,13 +55,9 @@ module _ (t : Table) (st : State) (i : ℕ) (places : List ℕ) (j : ℕ) where
   search_on h e = rw (drop-cons places j 0 h, ← e, add-one)
 
   -- Past the end nothing is found.
-  pub search_end : length places ≤ j → first_eligible t st i (drop j places) ≡ Missing
+  pub search_end : length places ≤ j → first_eligible t st i (drop j places) ≡ None
   unfolding first_eligible
   search_end h = rw (drop_of_length-le places h)
-
-  -- One more position that is not eligible.
-  pub none_more : NoneBefore t st i places j → eligible t st i (at_place places j) ≡ false → NoneBefore t st i places (j + 1)
-  none_more none is q l = by_equal q j (λ e. rw e is) (λ ne. none q (omega arith))
 
   -- No residual arc leads below the least label so far: so after one more place.
   pub high_more : (least label : ℕ) → HighBefore t st i places j least → label ≡ lesser t st i (at_place places j) least
@@ -149,10 +100,10 @@ module _ (t : Table) (st : State) (i : ℕ) (places : List ℕ) where
 
   -- So the first eligible place is the one at the position where the search stopped,
   pub found_at : (p k : ℕ) → p < length places → k ≡ at_place places p → NoneBefore t st i places p → eligible t st i k ≡ true
-      → Place k ≡ first_eligible t st i places
+      → Some k ≡ first_eligible t st i places
   found_at p k h here none is =
-      ap Place here ∙ sym (search_from p (omega arith) none ∙ search_here t st i places p h (sym is ∙ ap (eligible t st i) here))
+      ap Some here ∙ sym (search_from p (omega arith) none ∙ search_here t st i places p h (sym is ∙ ap (eligible t st i) here))
 
   -- and there is none where it came to the end.
-  pub found_none : NoneBefore t st i places (length places) → Missing ≡ first_eligible t st i places
+  pub found_none : NoneBefore t st i places (length places) → None ≡ first_eligible t st i places
   found_none none = sym (search_from (length places) (omega arith) none ∙ search_end t st i places (length places) (omega arith))

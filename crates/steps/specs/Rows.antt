@@ -1,5 +1,5 @@
 -- What the parts of the run find in rows and leave in them: for the contracts of functions over bare rows.
-use Rattle.std.specs.Prelude.{ℕ, ◌<◌, ◌≡◌, Bool, true, List, [], length}
+use Rattle.std.specs.Prelude.{ℕ, ◌<◌, ◌≡◌, Bool, true, List, [], length, Option, Some, None}
 use Rattle.rows.specs.Row.{Node, at_place}
 use Rattle.table.specs.Table.{Table, table_of}
 use Rattle.arcs.specs.Residual.{far, touches}
@@ -7,7 +7,6 @@ use Rattle.run.specs.Start.{State}
 use Rattle.run.specs.Push.{eligible, saturates, push}
 use Rattle.looking.specs.Looked.{NoneBefore}
 use Rattle.steps.specs.declared.Spot.{Spot}
-use Rattle.steps.specs.declared.Spot.TheVariants.{At, End}
 
 -- Whether the arc at place k touches node i, by these two rows alone.
 abbrev pub touching : (tails heads : List ℕ) → ℕ → ℕ → Bool
@@ -27,11 +26,12 @@ pub record Beside (m n : ℕ) (places ends : List ℕ) : Type 0 where
 abbrev pub FarEnds : Table → ℕ → (places ends : List ℕ) → Type 0
 FarEnds t i places ends = (j : ℕ) → j < length places → at_place ends j ≡ far t i (at_place places j)
 
--- Where the search of node i's list stopped: at position p, where place k stands, the first eligible, with its far end; or at the end, with none eligible.
-abbrev pub SpotIs : Table → State → ℕ → List ℕ → Spot → Type 0
-SpotIs t st i places (At p k there) =
-    (p < length places) × (k ≡ at_place places p) × NoneBefore t st i places p × (eligible t st i k ≡ true) × (there ≡ far t i k)
-SpotIs t st i places End = NoneBefore t st i places (length places)
+-- Where the search of node i's list stopped: at a position where the first eligible place stands, with its far end; or at the end, with none eligible.
+abbrev pub SpotIs : Table → State → ℕ → List ℕ → Option Spot → Type 0
+SpotIs t st i places (Some spot) =
+    (spot.position < length places) × (spot.place ≡ at_place places spot.position) × NoneBefore t st i places spot.position
+    × (eligible t st i spot.place ≡ true) × (spot.far ≡ far t i spot.place)
+SpotIs t st i places None = NoneBefore t st i places (length places)
 
 -- What a push leaves: the flow row, the excess row, and whether it was saturating.
 pub record Pushed (t : Table) (delta : ℕ) (st : State) (i k : ℕ) (flow excess : List ℕ) (full : Bool) : Type 0 where

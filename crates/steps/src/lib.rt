@@ -1,7 +1,7 @@
 // The parts of a step over bare rows: search, push and relabel.
 #![tactic(auto)]
 
-ghost use Rattle.std.specs.Prelude.{◌≡◌, true, List, ℕ, ◌+◌, ◌-◌, ◌*◌, ◌^◌, ◌≤◌, ◌<◌, min, length};
+ghost use Rattle.std.specs.Prelude.{◌≡◌, true, List, ℕ, ◌+◌, ◌-◌, ◌*◌, ◌^◌, ◌≤◌, ◌<◌, length};
 ghost use Rattle.rows.specs.Row.{Node, at_place, at_node};
 ghost use Rattle.table.specs.Table.{table_of};
 ghost use Rattle.table.specs.Accepted.{ArcEnds, ArcRows};
@@ -16,15 +16,16 @@ ghost use Rattle.steps.specs.Rows.{touching, AllTouch, Beside, FarEnds, SpotIs, 
 
 use run::Counts;
 
-// Where the arc search stopped: at a position of the node's list, the place that stands there and the arc's far end, or at the end.
-#[derive(Clone, Copy)]
-pub enum Spot {
-    At(u32, u32, u32),
-    End,
+// Where the arc search stopped before the list's end: the position in the node's list, the arc's place that stands there, and the arc's far end.
+#[derive(Clone, Copy, Debug, PartialEq, Eq)]
+pub struct Spot {
+    pub position: u32,
+    pub place: u32,
+    pub far: u32,
 }
 
 // The least label met in a node's list, and the position where it was first met.
-#[derive(Clone, Copy)]
+#[derive(Clone, Copy, Debug, PartialEq, Eq)]
 pub struct Lowest {
     pub label: u32,
     pub at: u32,
@@ -45,11 +46,11 @@ fn residual(tails: &[u32], capacities: &[u32], flow: &[u32], i: u32, k: u32) -> 
     requires within_capacities { WithinCapacities capacities.now flow.now }
     ensures { (n s t : ℕ) (heads : List ℕ) → result ≡ residual (table_of n s t tails.now heads capacities.now) flow.now i k }
 {
-    let tail = tails[k as usize];
-    if tail == i {
-        return capacities[k as usize] - flow[k as usize];
+    if tails[k as usize] == i {
+        capacities[k as usize] - flow[k as usize]
+    } else {
+        flow[k as usize]
     }
-    flow[k as usize]
 }
 
 // Whether the arc at place k, away from i, has a far end, `there`, exactly one lower, which few have, and residual above 0.
@@ -67,11 +68,8 @@ fn eligible(
     ensures { (n s t : ℕ) (heads excess : List ℕ) → (let table = table_of n s t tails.now heads capacities.now in
         there ≡ far table i k → result ≡ eligible table (state_of flow.now excess labels.now) i k) }
 {
-    let label = rows::wide(rows::at_node(labels, there));
-    if label + 1 == rows::wide(rows::at_node(labels, i)) {
-        return 0 < residual(tails, capacities, flow, i, k);
-    }
-    false
+    u64::from(rows::at_node(labels, there)) + 1 == u64::from(rows::at_node(labels, i))
+        && 0 < residual(tails, capacities, flow, i, k)
 }
 
 // The first eligible place of node i's list, which has none before position `from`; beside the list stand its far ends.
@@ -84,7 +82,7 @@ pub fn search(
     ends: &[u32],
     i: u32,
     from: u32,
-) -> Spot
+) -> Option<Spot>
     requires tails_len { (length tails.now ≡ length capacities.now) × WithinCapacities capacities.now flow.now }
     requires node { Node (length labels.now) i × Beside (length capacities.now) (length labels.now) list.now ends.now }
     requires from_in_bounds { (from ≤ length list.now) × (length list.now < 2 ^ 32) }
@@ -92,16 +90,19 @@ pub fn search(
         let state = state_of flow.now excess labels.now in
         FarEnds table i list.now ends.now → NoneBefore table state i list.now from → SpotIs table state i list.now result) }
 {
-    let mut j = from as usize;
-    while j < list.len() {
-        let k = list[j];
-        let there = ends[j];
-        if eligible(tails, capacities, flow, labels, i, k, there) {
-            return Spot::At(j as u32, k, there);
+    for j in from as usize..list.len() {
+        let place = list[j];
+        let far = ends[j];
+        if eligible(tails, capacities, flow, labels, i, place, far) {
+            let position = j as u32;
+            return Some(Spot {
+                position,
+                place,
+                far,
+            });
         }
-        j += 1;
     }
-    Spot::End
+    None
 }
 
 // The label at the far end, `there`, of the arc at place k, where that is below `best`, which few are, and the arc has residual away from i; else `best`.
@@ -122,24 +123,18 @@ fn lesser(
     ensures upper_bound { result ≤ best }
 {
     let label = rows::at_node(labels, there);
-    if best <= label {
-        return best;
+    if label < best && 0 < residual(tails, capacities, flow, i, k) {
+        label
+    } else {
+        best
     }
-    let left = residual(tails, capacities, flow, i, k);
-    if left == 0 {
-        return best;
-    }
-    label
 }
 
 // Position j where the label found there is less than the least so far; else the position `at` where that was met.
 fn met(label: u32, least: u32, at: u32, j: u32) -> u32
     ensures { (label < least → result ≡ j) × (least ≤ label → result ≡ at) }
 {
-    if label < least {
-        return j;
-    }
-    at
+    if label < least { j } else { at }
 }
 
 // The least of `best` and the labels at far ends of residual arcs in node i's list, and where it was first met; beside the list stand its far ends.
@@ -162,20 +157,13 @@ fn least_far(
         × HighBefore table state i list.now result.at (result.label + 1)) }
 {
     let mut least = best;
-    let mut at: u32 = 0;
-    let mut j = 0;
-    while j < list.len() {
-        let k = list[j];
-        let there = ends[j];
-        let label = lesser(tails, capacities, flow, labels, i, k, there, least);
+    let mut at = 0;
+    for j in 0..list.len() {
+        let label = lesser(tails, capacities, flow, labels, i, list[j], ends[j], least);
         at = met(label, least, at, j as u32);
         least = label;
-        j += 1;
     }
-    Lowest {
-        label: least,
-        at: at,
-    }
+    Lowest { label: least, at }
 }
 
 // Node i's label after a relabel, one more than the least label among far ends of its residual arcs, and the position of the first arc that leads so low.
@@ -196,11 +184,11 @@ pub fn new_label(
         FarEnds table i list.now ends.now → (result.label ≡ least_far table state i list.now (2 * length labels.now) + 1)
         × HighBefore table state i list.now result.at result.label) }
 {
-    let n = labels.len() as u32;
-    let found = least_far(tails, capacities, flow, labels, list, ends, i, 2 * n);
+    let top = 2 * labels.len() as u32;
+    let found = least_far(tails, capacities, flow, labels, list, ends, i, top);
     Lowest {
         label: found.label + 1,
-        at: found.at,
+        ..found
     }
 }
 
@@ -219,23 +207,10 @@ pub fn put_ends(
     ensures by_index_2 { (n s t : ℕ) (capacities : List ℕ) (j : ℕ) → j < length list.now
         → at_place ends.new (p + j) ≡ far (table_of n s t tails.now heads.now capacities) i (at_place list.now j) }
 {
-    let mut j = 0;
-    while j < list.len() {
-        let k = list[j];
+    for (j, &k) in list.iter().enumerate() {
         ends[p + j] = far(tails, heads, i, k);
-        j += 1;
     }
-    p + j
-}
-
-// The lesser of two numbers.
-fn least(a: u64, b: u64) -> u64
-    ensures { result ≡ min a b }
-{
-    if a < b {
-        return a;
-    }
-    b
+    p + list.len()
 }
 
 // How much a push along place k to its far end j moves: the least of excess, residual and what the far end may still take.
@@ -254,10 +229,10 @@ fn amount(
     ensures { (n s t : ℕ) (heads label : List ℕ) → (let table = table_of n s t tails.now heads capacities.now in
         j ≡ far table i k → result ≡ amount table delta (state_of flow.now excess.now label) i k) }
 {
-    let held = rows::wide(rows::at_node(excess, i));
-    let left = rows::wide(residual(tails, capacities, flow, i, k));
-    let there = rows::wide(rows::at_node(excess, j));
-    least(held, least(left, delta - there)) as u32
+    let held = u64::from(rows::at_node(excess, i));
+    let left = u64::from(residual(tails, capacities, flow, i, k));
+    let there = u64::from(rows::at_node(excess, j));
+    held.min(left.min(delta - there)) as u32
 }
 
 // Flow d goes along place k away from i, on the flow row.
@@ -268,12 +243,10 @@ fn send(tails: &[u32], flow: &mut [u32], i: u32, k: u32, d: u32)
     ensures { (n s t : ℕ) (heads capacities : List ℕ)
         → flow.new ≡ along (table_of n s t tails.now heads capacities) flow.old i k d }
 {
-    let tail = tails[k as usize];
-    let before = flow[k as usize];
-    if tail == i {
-        flow[k as usize] = before + d;
+    if tails[k as usize] == i {
+        flow[k as usize] += d;
     } else {
-        flow[k as usize] = before - d;
+        flow[k as usize] -= d;
     }
 }
 
@@ -287,14 +260,10 @@ fn shift(excess: &mut [u32], s: u32, t: u32, i: u32, j: u32, d: u32)
 {
     let held = rows::at_node(excess, i);
     rows::set_node(excess, i, held - d);
-    if j == s {
-        return;
+    if j != s && j != t {
+        let there = rows::at_node(excess, j);
+        rows::set_node(excess, j, there + d);
     }
-    if j == t {
-        return;
-    }
-    let there = rows::at_node(excess, j);
-    rows::set_node(excess, j, there + d);
 }
 
 // A push along place k away from node i, to the arc's far end j; whether it is saturating.
@@ -325,17 +294,16 @@ pub fn push(
 }
 
 // One more push, saturating or not.
-pub fn count_push(counts: Counts, full: bool) -> Counts
+pub fn count_push(mut counts: Counts, full: bool) -> Counts
     requires { steps counts < 2 ^ 63 }
     ensures { result ≡ one_push counts full }
 {
-    let mut next = counts;
     if full {
-        next.saturating = counts.saturating + 1;
+        counts.saturating += 1;
     } else {
-        next.nonsaturating = counts.nonsaturating + 1;
+        counts.nonsaturating += 1;
     }
-    next
+    counts
 }
 
 // One more relabel.
@@ -343,7 +311,8 @@ pub fn count_relabel(counts: Counts) -> Counts
     requires { steps counts < 2 ^ 63 }
     ensures { result ≡ one_relabel counts }
 {
-    let mut next = counts;
-    next.relabels = counts.relabels + 1;
-    next
+    Counts {
+        relabels: counts.relabels + 1,
+        ..counts
+    }
 }

@@ -1,40 +1,21 @@
 -- Laws of a tournament that has the keys of all nodes but one.
-use Prim.Native.Nat.{ℕ, ◌+◌, ◌-◌, ◌≤◌, ◌<◌}
+use Rattle.std.specs.Prelude.{Some}
+use Prim.Native.Nat.{ℕ, ◌≤◌, ◌<◌}
 use native.Mathlib.Omega.{arith}
-use mathlib.Core.Path.{◌≡◌, refl, ap, sym, subst, subst⁻¹, ◌∙◌}
+use mathlib.Core.Path.{◌≡◌, ap, sym, subst, subst⁻¹, ◌∙◌}
 use mathlib.Core.List.{List}
 use borrow.Author.Tests.{lt-ltb, eq-eqb, ne_eqb}
 use Rattle.rows.specs.Row.{Node, at_place, at_node}
-use Rattle.rows.proofs.Sums.{by_equal, by_order}
-use Rattle.run.specs.declared.Choice.TheVariants.{Node as Chosen}
+use Rattle.rows.proofs.Sums.{by_equal}
 use Rattle.tournament.specs.Tournament.{none, key, node_of, KeyOf, OwnKeys, rekeyed, without, Tournament, AllBut, Least, named}
 use Rattle.tournament.proofs.Mending.{tournament_same}
 use Rattle.tournament.proofs.Roots.{root_least}
 
--- A node's leaf has its key.
-leaf_is : (n : ℕ) (keys : ℕ → ℕ) (tree : List ℕ) (i : ℕ) → n ≤ 512 → Node n i → Tournament n keys tree → at_place tree (i + 511) ≡ keys i
-leaf_is n keys tree i few node t =
-    let there : i + 511 ≡ 512 + (i - 1) = omega arith in
-    let next : i - 1 + 1 ≡ i = omega arith in
-    let leaf : at_place tree (512 + (i - 1)) ≡ keys (i - 1 + 1) = rw (lt-ltb (i - 1) n (omega arith)) at (t.leaves (i - 1) (omega arith)) in
-    ap (λ (p : ℕ). at_place tree p) there ∙ leaf ∙ ap keys next
-
 module _ (n : ℕ) (keys : ℕ → ℕ) (tree : List ℕ) where
-  -- Node i's key stands in the tournament: it was put there,
+  -- Node i's key stands in the tournament where it was put there.
   pub stand_put : (i x z : ℕ) → keys i ≡ x → Tournament n (rekeyed (rekeyed keys i z) i x) tree → Tournament n keys tree
   stand_put i x z is t =
       tournament_same n _ keys tree (λ v node. by_equal v i (λ e. rw (eq-eqb v i e) (sym is ∙ ap keys (sym e))) (λ ne. rw (ne_eqb v i ne))) t
-
-  -- or what stood there is the key,
-  stand_same : (i z : ℕ) → z ≡ keys i → Tournament n (rekeyed keys i z) tree → Tournament n keys tree
-  stand_same i z is t =
-      tournament_same n _ keys tree (λ v node. by_equal v i (λ e. rw (eq-eqb v i e) (is ∙ ap keys (sym e))) (λ ne. rw (ne_eqb v i ne))) t
-
-  -- as the leaf says.
-  pub stand_already : (i x : ℕ) → n ≤ 512 → Node n i → keys i ≡ x → at_place tree (i + 511) ≡ x → AllBut n keys tree i → Tournament n keys tree
-  stand_already i x few node is at (z, t) =
-      let own : at_place tree (i + 511) ≡ z = rw (eq-eqb i i refl) at (leaf_is n (rekeyed keys i z) tree i few node t) in
-      stand_same i z (sym own ∙ at ∙ sym is) t
 
 -- A key stays where only another node's changes.
 pub rekeyed_other : (keys : ℕ → ℕ) (i j x y : ℕ) → (i ≡ j → ⊥) → keys i ≡ x → rekeyed keys j y i ≡ x
@@ -58,28 +39,6 @@ but_put n keys tree i j y z two js t = (
 )
 
 module _ (n : ℕ) (keys : ℕ → ℕ) (tree : List ℕ) (own : OwnKeys n keys) where
-  -- Where node j has none, or is node i,
-  pub but_none : (i j : ℕ) → ((i ≡ j → ⊥) → keys j ≡ none) → AllBut n (without keys j) tree i → AllBut n keys tree i
-  but_none i j free (z, t) = (
-    z,
-    tournament_same n _ (rekeyed keys i z) tree
-        (λ v node.
-        by_equal v i
-        (λ e. rw (eq-eqb v i e))
-        (λ ne. rw (ne_eqb v i ne) (by_equal v j (λ f. rw (eq-eqb v j f) (sym (ap keys f ∙ free (λ e. ne (f ∙ sym e))))) (λ nf. rw (ne_eqb v j nf)))))
-        t,
-  )
-
-  -- as it is where both keys are equal, nothing has to be put there.
-  pub but_one : (i j : ℕ) → Node n i → Node n j → keys i ≡ keys j → AllBut n (without keys j) tree i → AllBut n keys tree i
-  but_one i j at_i at_j same but = but_none i j free but
-    where
-      free : (i ≡ j → ⊥) → keys j ≡ none
-      free ne =
-          by_order none (keys j)
-          (λ l. omega (arith, (own j at_j).0))
-          (λ l. absurd (ne (sym ((own i at_i).1 (omega arith)) ∙ ap node_of same ∙ (own j at_j).1 l)))
-
   -- A key that is at most the root is the least, if the tournament has all others.
   pub least_but : n ≤ 512 → (i x : ℕ) → Node n i → keys i ≡ x → x ≤ at_place tree 1 → AllBut n keys tree i → Least n keys tree x
   least_but few i x node is low (z, t) =
@@ -118,7 +77,7 @@ pub key_same : (delta : ℕ) (excess label excess' label' : List ℕ) (v : ℕ) 
 key_same delta excess label excess' label' v e f = rw (e, f)
 
 -- A node's key gives the choice of that node.
-pub names : (n : ℕ) (keys : ℕ → ℕ) → OwnKeys n keys → (i x : ℕ) → Node n i → keys i ≡ x → x < none → Chosen i ≡ named x
+pub names : (n : ℕ) (keys : ℕ → ℕ) → OwnKeys n keys → (i x : ℕ) → Node n i → keys i ≡ x → x < none → Some i ≡ named x
 names n keys own i x node is less =
     let own_x : node_of x ≡ i = subst (λ (y : ℕ). y < none → node_of y ≡ i) is (own i node).1 less in
     rw (lt-ltb x none less, own_x)

@@ -1,4 +1,5 @@
 -- Laws of what a step brings to the sink, and of the net flow into it.
+use Rattle.std.specs.Prelude.{Some, None}
 use Prim.Native.Nat.{ℕ}
 use mathlib.Core.Path.{◌≡◌, refl}
 use mathlib.Core.List.{List}
@@ -8,18 +9,17 @@ use Rattle.arcs.specs.Residual.{list}
 use Rattle.run.specs.Start.{State}
 use Rattle.run.specs.Push.{first_eligible}
 use Rattle.run.specs.Phase.{value}
-use Rattle.run.specs.declared.Found.TheVariants.{Place, Missing}
 use Rattle.until.specs.Stopping.{into_sink}
 use Rattle.until.specs.Gain.{gain_along, gain}
 
 module _ (t : Table) (delta : ℕ) (st : State) (i : ℕ) where
   -- Where the search found a place the step brings the sink what the push along it does,
-  pub gain_push : (k g : ℕ) → Place k ≡ first_eligible t st i (list t i) → g ≡ gain_along t delta st i k → g ≡ gain t delta st i
+  pub gain_push : (k g : ℕ) → Some k ≡ first_eligible t st i (list t i) → g ≡ gain_along t delta st i k → g ≡ gain t delta st i
   unfolding gain
   gain_push k g found is = rw (← found) is
 
   -- and else nothing.
-  pub gain_relabel : Missing ≡ first_eligible t st i (list t i) → gain t delta st i ≡ 0
+  pub gain_relabel : None ≡ first_eligible t st i (list t i) → gain t delta st i ≡ 0
   unfolding gain
   gain_relabel found = rw (← found)
 

@@ -1,4 +1,5 @@
 -- From step to step the run grows: the facts hold at each moment, no count falls, and the net flow into the sink never falls.
+use Rattle.std.specs.Prelude.{Option, Some, None}
 use Prim.Native.Nat.{ℕ, zero, suc, ◌+◌, ◌-◌, ◌≤◌}
 use mathlib.Core.Path.{◌≡◌, refl, ap, sym, subst, ◌∙◌}
 use native.Mathlib.Omega.{arith}
@@ -21,10 +22,6 @@ use Rattle.run.specs.Push.{first_eligible, amount, push}
 use Rattle.run.specs.Relabel.{relabel}
 use Rattle.run.specs.Phase.{Run, step_at, step, run, value}
 use Rattle.run.specs.Rows.{Fits}
-use Rattle.run.specs.declared.Choice.{Choice}
-use Rattle.run.specs.declared.Choice.TheVariants.{Node, Nothing}
-use Rattle.run.specs.declared.Found.{Found}
-use Rattle.run.specs.declared.Found.TheVariants.{Place, Missing}
 use Rattle.run.proofs.Networks.{functions_of, FactsOf, accepted_sound, no_minimums}
 use Rattle.arcs.proofs.Members.{member_start}
 use Rattle.run.proofs.Arcs.{found_place, eligible_arc}
@@ -76,7 +73,7 @@ module _ (t : Table) (ok : Accepted t) where
   next_grows zero r good = (good, grows_same t r)
   next_grows (suc left) r good = go (choose t (scale_of (suc left)) r.state) refl (λ e. next_grows left r (lower e))
     where
-      lower : choose t (scale_of (suc left)) r.state ≡ Nothing → Ordered t (stage left r)
+      lower : choose t (scale_of (suc left)) r.state ≡ None → Ordered t (stage left r)
       lower e =
           let one : suc left - 1 ≡ left = omega arith in
           record {
@@ -87,12 +84,12 @@ module _ (t : Table) (ok : Accepted t) where
             fits = good.fits;
           }
 
-      go : (c : Choice) → choose t (scale_of (suc left)) r.state ≡ c
-          → (choose t (scale_of (suc left)) r.state ≡ Nothing → Ordered t (next t left r) × Grows t r (next t left r).now)
-          → Ordered t (elim c as (λ _. Stage) [ Nothing ↦ next t left r | Node i ↦ stage (suc left) (step t (scale_of (suc left)) r i) ])
-          × Grows t r (elim c as (λ _. Stage) [ Nothing ↦ next t left r | Node i ↦ stage (suc left) (step t (scale_of (suc left)) r i) ]).now
-      go Nothing e over = over e
-      go (Node i) e over =
+      go : (c : Option ℕ) → choose t (scale_of (suc left)) r.state ≡ c
+          → (choose t (scale_of (suc left)) r.state ≡ None → Ordered t (next t left r) × Grows t r (next t left r).now)
+          → Ordered t (elim c as (λ _. Stage) [ None ↦ next t left r | Some i ↦ stage (suc left) (step t (scale_of (suc left)) r i) ])
+          × Grows t r (elim c as (λ _. Stage) [ None ↦ next t left r | Some i ↦ stage (suc left) (step t (scale_of (suc left)) r i) ]).now
+      go None e over = over e
+      go (Some i) e over =
           let none = no_trail t (scale_of (suc left)) r good.fits in
           let trail : Trail t (scale_of (suc left)) r (step t (scale_of (suc left)) r i) (0 + 1) = step_trail t ok (scale_of (suc left)) r good.facts r 0 none i e in (
             record {
@@ -161,13 +158,13 @@ module _ (t : Table) (ok : Accepted t) where
         best.net,
       )
 
-  module _ (delta : ℕ) (r : Run) (facts : FactsOf t delta r.state) (fits : Fits t r.state) (i : ℕ) (e : choose t delta r.state ≡ Node i) where
+  module _ (delta : ℕ) (r : Run) (facts : FactsOf t delta r.state) (fits : Fits t r.state) (i : ℕ) (e : choose t delta r.state ≡ Some i) where
     -- The node is the theory's.
     chosen : Chosen (network_of t) delta (functions_of r.state) i
     chosen = choose_chosen t delta r.state i e
 
     -- A push brings the sink what the definitions say,
-    push_gains : (k : ℕ) → first_eligible t r.state i (list t i) ≡ Place k
+    push_gains : (k : ℕ) → first_eligible t r.state i (list t i) ≡ Some k
         → SinkGains (network_of t) (at_place r.state.flow) (at_place (push t delta r.state i k).flow) (gain_along t delta r.state i k)
     push_gains k found =
         let sound = accepted_sound t ok in
@@ -191,10 +188,10 @@ module _ (t : Table) (ok : Accepted t) where
     unfolding step step_at gain relabel
     step_gains = go (first_eligible t r.state i (list t i)) refl
       where
-        go : (f : Found) → first_eligible t r.state i (list t i) ≡ f
+        go : (f : Option ℕ) → first_eligible t r.state i (list t i) ≡ f
             → SinkGains (network_of t) (at_place r.state.flow) (at_place (step_at t delta r i f).state.flow) (gain_at t delta r.state i f)
-        go (Place k) found = push_gains k found
-        go Missing found = omega arith
+        go (Some k) found = push_gains k found
+        go None found = omega arith
 
     -- The net flow into the sink after the step.
     pub step_into_sink : sink_out t r ≤ sink_in t r → into_sink t (step t delta r i).state.flow ≡ into_sink t r.state.flow + gain t delta r.state i

@@ -1,4 +1,5 @@
 -- The run step by step is the run: where it stands after each phase, and at its end.
+use Rattle.std.specs.Prelude.{Option, Some, None}
 use Prim.Native.Nat.{ℕ, zero, suc, ◌+◌, ◌-◌, ◌≤◌, ◌<◌}
 use mathlib.Core.Path.{◌≡◌, refl, ap, sym, subst, ◌∙◌}
 use mathlib.Core.Bool.{Bool, true, false, cond}
@@ -12,10 +13,6 @@ use Rattle.run.specs.Choice.{choose}
 use Rattle.run.specs.Push.{first_eligible, saturates}
 use Rattle.run.specs.Phase.{Run, step_at, step, phase_for, phase, enough, delta_after, after, run}
 use Rattle.run.specs.Rows.{steps}
-use Rattle.run.specs.declared.Choice.{Choice}
-use Rattle.run.specs.declared.Choice.TheVariants.{Node, Nothing}
-use Rattle.run.specs.declared.Found.{Found}
-use Rattle.run.specs.declared.Found.TheVariants.{Place, Missing}
 use Rattle.run.proofs.Whole.{Course, course, course_facts, delta_positive}
 use Rattle.run.proofs.Courses.{phase_ended}
 use Rattle.until.specs.Stepwise.{Stage, stage, next, stage_after, after_steps}
@@ -29,20 +26,20 @@ step_counted t delta r i = go (first_eligible t r.state i (list t i))
     one true = refl
     one false = refl
 
-    go : (f : Found) → steps (step_at t delta r i f).counts ≡ suc (steps r.counts)
-    go (Place k) = omega (arith, one (saturates t delta r.state i k))
-    go Missing = omega arith
+    go : (f : Option ℕ) → steps (step_at t delta r i f).counts ≡ suc (steps r.counts)
+    go (Some k) = omega (arith, one (saturates t delta r.state i k))
+    go None = omega arith
 
 module _ (t : Table) (left : ℕ) (r : Run) where
   -- One step more at the chosen node.
-  next_node : (i : ℕ) → choose t (scale_of (suc left)) r.state ≡ Node i → next t (suc left) r ≡ stage (suc left) (step t (scale_of (suc left)) r i)
+  next_node : (i : ℕ) → choose t (scale_of (suc left)) r.state ≡ Some i → next t (suc left) r ≡ stage (suc left) (step t (scale_of (suc left)) r i)
   unfolding next
-  next_node i e = ap (λ c. elim c as (λ _. Stage) [ Nothing ↦ next t left r | Node i ↦ stage (suc left) (step t (scale_of (suc left)) r i) ]) e
+  next_node i e = ap (λ c. elim c as (λ _. Stage) [ None ↦ next t left r | Some i ↦ stage (suc left) (step t (scale_of (suc left)) r i) ]) e
 
   -- Where a phase is over the next one goes on.
-  next_nothing : choose t (scale_of (suc left)) r.state ≡ Nothing → next t (suc left) r ≡ next t left r
+  next_nothing : choose t (scale_of (suc left)) r.state ≡ None → next t (suc left) r ≡ next t left r
   unfolding next
-  next_nothing e = ap (λ c. elim c as (λ _. Stage) [ Nothing ↦ next t left r | Node i ↦ stage (suc left) (step t (scale_of (suc left)) r i) ]) e
+  next_nothing e = ap (λ c. elim c as (λ _. Stage) [ None ↦ next t left r | Some i ↦ stage (suc left) (step t (scale_of (suc left)) r i) ]) e
 
 -- One step more is counted once at most.
 next_counted : (t : Table) (left : ℕ) (r : Run) → steps (next t left r).now.counts ≤ suc (steps r.counts)
@@ -50,10 +47,10 @@ unfolding next
 next_counted t zero r = omega arith
 next_counted t (suc left) r = go (choose t (scale_of (suc left)) r.state) (next_counted t left r)
   where
-    go : (c : Choice) → steps (next t left r).now.counts ≤ suc (steps r.counts)
-        → steps (elim c as (λ _. Stage) [ Nothing ↦ next t left r | Node i ↦ stage (suc left) (step t (scale_of (suc left)) r i) ]).now.counts ≤ suc (steps r.counts)
-    go Nothing over = over
-    go (Node i) over = omega (arith, step_counted t (scale_of (suc left)) r i)
+    go : (c : Option ℕ) → steps (next t left r).now.counts ≤ suc (steps r.counts)
+        → steps (elim c as (λ _. Stage) [ None ↦ next t left r | Some i ↦ stage (suc left) (step t (scale_of (suc left)) r i) ]).now.counts ≤ suc (steps r.counts)
+    go None over = over
+    go (Some i) over = omega (arith, step_counted t (scale_of (suc left)) r i)
 
 -- So from step i to step j there are j - i more at most.
 counted_between : (t : Table) (i j : ℕ) → i ≤ j → steps (after_steps t j).counts + i ≤ steps (after_steps t i).counts + j
@@ -76,7 +73,7 @@ stands_first t = record { here = refl; on = refl }
 
 module _ (t : Table) (left : ℕ) (r : Run) (stands : Stands t (suc left) r) where
   -- A step at the chosen node leads on,
-  pub stands_step : (i : ℕ) → choose t (scale_of (suc left)) r.state ≡ Node i → Stands t (suc left) (step t (scale_of (suc left)) r i)
+  pub stands_step : (i : ℕ) → choose t (scale_of (suc left)) r.state ≡ Some i → Stands t (suc left) (step t (scale_of (suc left)) r i)
   unfolding stage_after
   stands_step i e =
       let now : Run = step t (scale_of (suc left)) r i in
@@ -88,7 +85,7 @@ module _ (t : Table) (left : ℕ) (r : Run) (stands : Stands t (suc left) r) whe
       }
 
   -- and having no node to choose ends the phase.
-  pub stands_end : choose t (scale_of (suc left)) r.state ≡ Nothing → Stands t left r
+  pub stands_end : choose t (scale_of (suc left)) r.state ≡ None → Stands t left r
   stands_end e = record { here = stands.here; on = stands.on ∙ next_nothing t left r e }
 
 -- After some steps of a phase.
@@ -98,11 +95,11 @@ stands_for t left zero r stands = stands
 stands_for t left (suc fuel) r stands =
     go (choose t (scale_of (suc left)) r.state) refl (λ i e. stands_for t left fuel (step t (scale_of (suc left)) r i) (stands_step t left r stands i e))
   where
-    go : (c : Choice) → choose t (scale_of (suc left)) r.state ≡ c
-        → ((i : ℕ) → choose t (scale_of (suc left)) r.state ≡ Node i → Stands t (suc left) (phase_for t (scale_of (suc left)) fuel (step t (scale_of (suc left)) r i)))
-        → Stands t (suc left) (elim c as (λ _. Run) [ Nothing ↦ r | Node i ↦ phase_for t (scale_of (suc left)) fuel (step t (scale_of (suc left)) r i) ])
-    go Nothing e more = stands
-    go (Node i) e more = more i e
+    go : (c : Option ℕ) → choose t (scale_of (suc left)) r.state ≡ c
+        → ((i : ℕ) → choose t (scale_of (suc left)) r.state ≡ Some i → Stands t (suc left) (phase_for t (scale_of (suc left)) fuel (step t (scale_of (suc left)) r i)))
+        → Stands t (suc left) (elim c as (λ _. Run) [ None ↦ r | Some i ↦ phase_for t (scale_of (suc left)) fuel (step t (scale_of (suc left)) r i) ])
+    go None e more = stands
+    go (Some i) e more = more i e
 
 module _ (t : Table) (ok : Accepted t) where
   -- After a phase.
@@ -115,7 +112,7 @@ module _ (t : Table) (ok : Accepted t) where
       subst (λ (x : ℕ). Stands t (phase_count t - suc d) (phase_for t (scale_of x) (enough t) (after t d))) (sym left)
       (stands_end t (phase_count t - suc d) (phase_for t (scale_of (suc (phase_count t - suc d))) (enough t) (after t d))
       (stands_for t (phase_count t - suc d) (enough t) (after t d) (subst (λ (x : ℕ). Stands t x (after t d)) left stands))
-      (subst (λ (x : ℕ). choose t (scale_of x) (phase_for t (scale_of x) (enough t) (after t d)).state ≡ Nothing) left ended))
+      (subst (λ (x : ℕ). choose t (scale_of x) (phase_for t (scale_of x) (enough t) (after t d)).state ≡ None) left ended))
 
   -- After the first d phases the run stands there.
   pub stands_after : (d : ℕ) → d ≤ phase_count t → Stands t (phase_count t - d) (after t d)

@@ -1,4 +1,5 @@
 -- Laws of a step with what the run keeps beside the state: it is document 01's step, and the next one finds all that it needs.
+use Rattle.std.specs.Prelude.{Some, None}
 use Prim.Native.Nat.{ℕ, ◌+◌, ◌-◌, ◌*◌, ◌≤◌}
 use native.Mathlib.Omega.{arith}
 use mathlib.Core.Path.{◌≡◌, refl, ap, sym, ◌∙◌, subst}
@@ -20,7 +21,6 @@ use Rattle.run.specs.Push.{eligible, amount, moved, saturates, push}
 use Rattle.run.specs.Relabel.{top, new_label, relabel}
 use Rattle.run.specs.Phase.{Run, one_push, one_relabel}
 use Rattle.run.specs.Rows.{state_of, run_of, Fits}
-use Rattle.run.specs.declared.Choice.TheVariants.{Node as Chosen}
 use Rattle.run.specs.declared.Counts.{Counts}
 use Rattle.run.proofs.Networks.{by_cond}
 use Rattle.run.proofs.Arcs.{least_le}
@@ -33,7 +33,7 @@ use Rattle.tournament.specs.Tournament.{key, LowLabels, without, AllBut, Chose}
 use Rattle.tournament.proofs.Mending.{key_small}
 use Rattle.tournament.proofs.Standing.{but_two, key_same}
 use Rattle.steps.specs.Rows.{SpotIs}
-use Rattle.steps.specs.declared.Spot.TheVariants.{At, End}
+use Rattle.steps.specs.declared.Spot.{Spot}
 use Rattle.steps.specs.declared.Lowest.{Lowest}
 use Rattle.steps.proofs.Searching.{found_at, found_none}
 use Rattle.work.specs.Held.{Relabels, Apart, brought, Stepped}
@@ -106,10 +106,13 @@ module _ (t : Table) (delta : ℕ) (st : State) (counts : Counts) (i : ℕ) (loo
       eqb-true there own (both_true (ltb 0 (residual t st.flow i k)) (eqb there own) e).1
 
   -- A push along the place where the search stopped.
-  pub stepped_push : (p k other : ℕ) (full : Bool) → SpotIs t st i (list t i) (At p k other) → Node t.nodes other
-      → after ≡ push t delta st i k → full ≡ saturates t delta st i k → counted ≡ one_push counts full → looked_after ≡ set looked (i - 1) p
-      → Stepped t delta (run_of st counts) i (run_of after counted) looked_after other
-  stepped_push p k other full spot there after_is Full-is counted_is looked_is =
+  pub stepped_push : (at : Spot) (full : Bool) → SpotIs t st i (list t i) (Some at) → Node t.nodes at.far
+      → after ≡ push t delta st i at.place → full ≡ saturates t delta st i at.place → counted ≡ one_push counts full
+      → looked_after ≡ set looked (i - 1) at.position → Stepped t delta (run_of st counts) i (run_of after counted) looked_after at.far
+  stepped_push at full spot there after_is Full-is counted_is looked_is =
+      let p : ℕ = at.position in
+      let k : ℕ = at.place in
+      let other : ℕ = at.far in
       let other_is = spot.4 in
       let labels : after.label ≡ st.label = ap (λ (s : State). s.label) after_is ∙ push_label k in
       let found = found_at t st i (list t i) p k spot.0 spot.1 spot.2 spot.3 in
@@ -140,7 +143,7 @@ module _ (t : Table) (delta : ℕ) (st : State) (counts : Counts) (i : ℕ) (loo
       (λ ne. omega (arith, set_apart st.label i x here v ne, valid.high v (at_v.0, omega (arith, at_v.1, length-set st.label (i - 1) x, fits.label))))
 
   -- A relabel, where the search came to the end.
-  pub stepped_relabel : (found : Lowest) → SpotIs t st i (list t i) End → Relabels t st i found
+  pub stepped_relabel : (found : Lowest) → SpotIs t st i (list t i) None → Relabels t st i found
       → after ≡ state_of st.flow st.excess (set st.label (i - 1) found.label) → counted ≡ one_relabel counts → looked_after ≡ set looked (i - 1) found.at
       → Stepped t delta (run_of st counts) i (run_of after counted) looked_after i
   stepped_relabel found spot rel after_is counted_is looked_is =
@@ -166,7 +169,7 @@ module _ (t : Table) (delta : ℕ) (st : State) (counts : Counts) (i : ℕ) (loo
 
 -- After a step at the chosen node i the tournament has all keys but two: none stands for the other node, whose label was lower than the least.
 pub ready_after : (t : Table) (delta : ℕ) (before : Run) (i : ℕ) (after : Run) (looked tree : List ℕ) (other : ℕ)
-    → Stepped t delta before i after looked other → Chose t.nodes delta before.state.excess before.state.label tree (Chosen i)
+    → Stepped t delta before i after looked other → Chose t.nodes delta before.state.excess before.state.label tree (Some i)
     → AllBut t.nodes (without (key delta after.state.excess after.state.label) other) tree i
 ready_after t delta before i after looked tree other stepped chose =
     let was = before.state in
@@ -178,7 +181,7 @@ ready_after t delta before i after looked tree other stepped chose =
   where
     small : (other ≡ i → ⊥) → 2 * at_node before.state.excess other ≤ delta
     small ne =
-        let chosen = choose_chosen t delta before.state i (sym (choice_is t delta before.state (Chosen i) tree chose)) in
+        let chosen = choose_chosen t delta before.state i (sym (choice_is t delta before.state (Some i) tree chose)) in
         by_order (2 * at_node before.state.excess other) delta
         (λ l. l)
         (λ large. absurd (omega (arith, stepped.other_down ne, chosen.lowest other stepped.other_node large)))

@@ -70,26 +70,26 @@ unfolding joined
 none_joined f = refl
 
 -- Those of nodes 1 to i take as much room as those before node i + 1.
-before_one_more : (f : ℕ → List ℕ) (i : ℕ) → entries_before f (i + 1) ≡ length (joined f i)
+pub before_one_more : (f : ℕ → List ℕ) (i : ℕ) → entries_before f (i + 1) ≡ length (joined f i)
 before_one_more f i = let e : i + 1 - 1 ≡ i = omega arith in rw e
 
-module _ (t : Table) (i p : ℕ) (p_is : p ≡ length (joined (list t) i)) (places : List ℕ) (places_are : places ≡ list t (i + 1)) where
-  -- Behind the far ends of the next node's list there is room for those of the nodes after it.
-  pub joined_on : p + length places ≡ length (joined (list t) (i + 1))
-  joined_on = omega (arith, p_is, before_one_more (list t) i, joined_next (list t) (i + 1) (omega arith), ap (λ (row : List ℕ). length row) places_are)
+module _ (t : Table) (i p : ℕ) (one : 1 ≤ i) (p_is : p ≡ entries_before (list t) i) (places : List ℕ) (places_are : places ≡ list t i) where
+  -- Behind the far ends of node i's list there is room for those of the nodes after it.
+  pub joined_on : p + length places ≡ length (joined (list t) i)
+  joined_on = omega (arith, p_is, joined_next (list t) i one, ap (λ (row : List ℕ). length row) places_are)
 
-  -- Put behind those of nodes 1 to i, which stay, they make the far ends of one node more.
-  pub filled_on : (before after : List ℕ) → FarTo t i before → ((q : ℕ) → q < p → at_place after q ≡ at_place before q)
-      → ((j : ℕ) → j < length places → at_place after (p + j) ≡ far t (i + 1) (at_place places j)) → FarTo t (i + 1) after
+  -- Put behind those of the nodes before i, which stay, they make the far ends of one node more.
+  pub filled_on : (before after : List ℕ) → FarTo t (i - 1) before → ((q : ℕ) → q < p → at_place after q ≡ at_place before q)
+      → ((j : ℕ) → j < length places → at_place after (p + j) ≡ far t i (at_place places j)) → FarTo t i after
   filled_on before after known same new v j node l =
-      by_equal (i + 1) v
+      by_equal i v
       (λ e. subst (λ (x : ℕ). j < length (list t x) → at_place after (entries_before (list t) x + j) ≡ far t x (at_place (list t x) j)) e here l)
       (λ ne.
-      let below : entries_before (list t) v + j < p = omega (arith, p_is, joined_next (list t) v node.0, joined_rises (list t) v i (omega (arith, ne))) in
+      let below : entries_before (list t) v + j < p = omega (arith, p_is, joined_next (list t) v node.0, joined_rises (list t) v (i - 1) (omega (arith, ne))) in
       same (entries_before (list t) v + j) below ∙ known v j (omega (arith, ne)) l)
     where
-      here : j < length (list t (i + 1)) → at_place after (entries_before (list t) (i + 1) + j) ≡ far t (i + 1) (at_place (list t (i + 1)) j)
+      here : j < length (list t i) → at_place after (entries_before (list t) i + j) ≡ far t i (at_place (list t i) j)
       here within =
-          let from : p + j ≡ entries_before (list t) (i + 1) + j = omega (arith, p_is, before_one_more (list t) i) in
+          let from : p + j ≡ entries_before (list t) i + j = omega (arith, p_is) in
           sym (ap (at_place after) from) ∙ new j (omega (arith, within, ap (λ (row : List ℕ). length row) places_are))
-          ∙ ap (λ (row : List ℕ). far t (i + 1) (at_place row j)) places_are
+          ∙ ap (λ (row : List ℕ). far t i (at_place row j)) places_are

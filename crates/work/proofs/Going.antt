@@ -1,4 +1,5 @@
 -- Laws of the loops that stop as soon as the net flow into the sink reaches q: how a phase stands at each moment, and where the run stops.
+use Rattle.std.specs.Prelude.{Some}
 use Prim.Native.Nat.{ℕ, suc, ◌+◌, ◌-◌, ◌^◌, ◌≤◌, ◌<◌}
 use native.Mathlib.Omega.{arith}
 use mathlib.Core.Path.{◌≡◌, refl, ap, sym, subst, subst⁻¹, subst₂, ◌∙◌}
@@ -16,7 +17,6 @@ use Rattle.run.specs.Scale.{scale_of, phase_count}
 use Rattle.run.specs.Choice.{choose}
 use Rattle.run.specs.Phase.{Run, step, after, run}
 use Rattle.run.specs.Rows.{steps}
-use Rattle.run.specs.declared.Choice.TheVariants.{Node}
 use Rattle.run.proofs.Networks.{FactsOf}
 use Rattle.run.proofs.Moments.{moment_facts}
 use Rattle.run.proofs.Answers.{run_value}
@@ -83,12 +83,12 @@ module _ (t : Table) (ok : Accepted t) (q delta : ℕ) (first : Run) where
     going_small = omega (arith, going.under.sink_is, into_sink_bound t ok now.state facts)
 
     -- A step where q is not reached leads on.
-    pub going_step : sink < q → (i : ℕ) → choose t delta now.state ≡ Node i → (then : Run) (more : ℕ) → then ≡ step t delta now i
+    pub going_step : sink < q → (i : ℕ) → choose t delta now.state ≡ Some i → (then : Run) (more : ℕ) → then ≡ step t delta now i
         → more ≡ sink + gain t delta now.state i → Going t q delta first then more
     going_step below i chosen then more stepped is =
         let next : Stands t (suc going.to_come) (step t delta now i) =
         subst⁻¹ (λ (x : ℕ). Stands t (suc going.to_come) (step t x now i)) going.delta_is
-        (stands_step t going.to_come now going.stands i (subst (λ (x : ℕ). choose t x now.state ≡ Node i) going.delta_is chosen)) in
+        (stands_step t going.to_come now going.stands i (subst (λ (x : ℕ). choose t x now.state ≡ Some i) going.delta_is chosen)) in
         let counted : steps (step t delta now i).counts ≡ suc (steps now.counts) = step_counted t delta now i in
         let here : into_sink t (after_steps t (steps now.counts)).state.flow ≡ into_sink t now.state.flow =
         ap (λ (r : Run). into_sink t r.state.flow) going.under.part_is in
@@ -113,7 +113,7 @@ module _ (t : Table) (ok : Accepted t) (q delta : ℕ) (first : Run) where
         })
 
     -- It leaves one less.
-    pub going_less : (i : ℕ) → choose t delta now.state ≡ Node i → (then : Run) → then ≡ step t delta now i → left t first then < left t first now
+    pub going_less : (i : ℕ) → choose t delta now.state ≡ Some i → (then : Run) → then ≡ step t delta now i → left t first then < left t first now
     going_less i chosen then stepped =
         subst⁻¹ (λ (r : Run). left t first r < left t first now) stepped (amid_less t ok delta first now going.amid i chosen)
 

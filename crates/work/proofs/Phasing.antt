@@ -1,9 +1,10 @@
 -- Laws of the loop of a phase: how the phase stands at each moment.
+use Rattle.std.specs.Prelude.{Some, None}
 use Prim.Native.Nat.{ℕ, ◌+◌, ◌-◌, ◌/◌, ◌^◌, ◌<◌}
 use native.Mathlib.Numerals.{add-one}
 use native.Mathlib.Omega.{arith}
 use mathlib.Core.Path.{◌≡◌, ap, ap₂, sym, subst⁻¹, ◌∙◌}
-use Rattle.rows.specs.Row.{Node as NodeOf}
+use Rattle.rows.specs.Row.{Node}
 use Rattle.table.specs.Table.{Table}
 use Rattle.table.specs.Accepted.{Accepted}
 use Rattle.run.specs.Start.{State, start}
@@ -11,7 +12,6 @@ use Rattle.run.specs.Scale.{scale_of, phase_count}
 use Rattle.run.specs.Choice.{choose}
 use Rattle.run.specs.Phase.{Run, no_steps, step, phase, enough, delta_after, after, run}
 use Rattle.run.specs.Rows.{run_of, steps, InPhase}
-use Rattle.run.specs.declared.Choice.TheVariants.{Node, Nothing}
 use Rattle.run.proofs.Whole.{delta_half}
 use Rattle.run.proofs.Moments.{Moment, moment_first, moment_facts, moment_in_phase, moment_node, moment_step, moment_end, moment_few}
 use Rattle.looking.specs.Looked.{ValidLabels}
@@ -62,9 +62,9 @@ module _ (t : Table) (ok : Accepted t) (delta : ℕ) (first : Run) where
     same_choice : choose t delta now.state ≡ choose t (delta_after t amid.between.done) now.state
     same_choice = ap (λ (x : ℕ). choose t x now.state) amid.between.delta_is
 
-    module _ (i : ℕ) (chosen : choose t delta now.state ≡ Node i) where
+    module _ (i : ℕ) (chosen : choose t delta now.state ≡ Some i) where
       -- The chosen node is one of 1 to n.
-      pub amid_node : NodeOf t.nodes i
+      pub amid_node : Node t.nodes i
       amid_node = moment_node t ok amid.between.done amid.between.more now amid.size amid.moment i (sym same_choice ∙ chosen)
 
       -- A step is left to take,
@@ -87,7 +87,7 @@ module _ (t : Table) (ok : Accepted t) (delta : ℕ) (first : Run) where
       amid_less = omega (arith, next.0, amid.counted, counted_once)
 
     -- With no node to choose the phase is over.
-    pub amid_end : choose t delta now.state ≡ Nothing → now ≡ phase t delta first
+    pub amid_end : choose t delta now.state ≡ None → now ≡ phase t delta first
     unfolding after
     amid_end none =
         moment_end t ok amid.between.done amid.between.more now amid.size amid.moment (sym same_choice ∙ none)

@@ -1,4 +1,5 @@
 -- Laws of a step over the work row: what its parts leave is a step of the definitions.
+use Rattle.std.specs.Prelude.{Option, Some, None}
 use Prim.Native.Nat.{ℕ, ◌+◌, ◌-◌, ◌*◌, ◌^◌, ◌≤◌, ◌<◌}
 use native.Mathlib.Omega.{arith}
 use mathlib.Core.Path.{◌≡◌, ap, ◌∙◌}
@@ -16,9 +17,7 @@ use Rattle.run.specs.Push.{first_eligible, saturates, push}
 use Rattle.run.specs.Relabel.{least_far, top, new_label, relabel}
 use Rattle.run.specs.Phase.{one_push, one_relabel, step_at, step}
 use Rattle.run.specs.Rows.{state_of, run_of}
-use Rattle.run.specs.declared.Choice.{Choice}
 use Rattle.run.specs.declared.Counts.{Counts}
-use Rattle.run.specs.declared.Found.TheVariants.{Place, Missing}
 use Rattle.tournament.specs.Tournament.{Chose}
 use Rattle.steps.specs.Rows.{Pushed}
 
@@ -28,7 +27,7 @@ pub same_state : {flow flow' excess excess' label label' : List ℕ} → flow �
 same_state p q r = rw (p, q, r)
 
 -- The choice that the tournament gives is the choice.
-pub choice_is : (t : Table) (delta : ℕ) (st : State) (answer : Choice) (tree : List ℕ) → Chose t.nodes delta st.excess st.label tree answer
+pub choice_is : (t : Table) (delta : ℕ) (st : State) (answer : Option ℕ) (tree : List ℕ) → Chose t.nodes delta st.excess st.label tree answer
     → answer ≡ choose t delta st
 unfolding choose
 choice_is t delta st answer tree chose = chose.is
@@ -47,13 +46,13 @@ pushed_state p = rw (p.flow_is, p.excess_is)
 
 module _ (t : Table) (delta : ℕ) (st : State) (counts : Counts) (i : ℕ) (after : State) (counted : Counts) where
   -- Where the search found a place a step is a push along it,
-  pub step_push : (k : ℕ) (full : Bool) → Place k ≡ first_eligible t st i (list t i) → after ≡ push t delta st i k
+  pub step_push : (k : ℕ) (full : Bool) → Some k ≡ first_eligible t st i (list t i) → after ≡ push t delta st i k
       → full ≡ saturates t delta st i k → counted ≡ one_push counts full → run_of after counted ≡ step t delta (run_of st counts) i
   unfolding step step_at
   step_push k full found state_is Full-is counts_are = rw (← found, state_is, counts_are, Full-is)
 
   -- and where it found none a step is a relabel.
-  pub step_relabel : (label : ℕ) → Missing ≡ first_eligible t st i (list t i) → label ≡ new_label t st i
+  pub step_relabel : (label : ℕ) → None ≡ first_eligible t st i (list t i) → label ≡ new_label t st i
       → after ≡ state_of st.flow st.excess (set st.label (i - 1) label) → counted ≡ one_relabel counts
       → run_of after counted ≡ step t delta (run_of st counts) i
   unfolding step step_at relabel

@@ -1,6 +1,6 @@
 -- What the flow row and the work row hold while the run goes on: for the contracts of the run over one work row.
-use Rattle.std.specs.Prelude.{ℕ, ◌+◌, ◌-◌, ◌≤◌, ◌<◌, ◌≡◌, List, eqb, length}
-use Rattle.rows.specs.Lent.{LentRow, before}
+use Rattle.std.specs.Prelude.{ℕ, ◌+◌, ◌-◌, ◌≤◌, ◌<◌, ◌≡◌, List, eqb, length, Option}
+use Rattle.rows.specs.Lent.{before}
 use Rattle.rows.specs.Row.{Node, at_place, at_node}
 use Rattle.rows.specs.Sum.{only}
 use Rattle.table.specs.Table.{Table}
@@ -13,7 +13,6 @@ use Rattle.run.specs.Scale.{phase_count, scale}
 use Rattle.run.specs.Relabel.{new_label}
 use Rattle.run.specs.Phase.{Run, step, delta_after, after as after_phases, run}
 use Rattle.run.specs.Rows.{state_of, run_of, steps}
-use Rattle.run.specs.declared.Choice.{Choice}
 use Rattle.run.specs.declared.Counts.{Counts}
 use Rattle.run.specs.declared.Outcome.{Outcome}
 use Rattle.until.specs.Stepwise.{after_steps}
@@ -60,7 +59,7 @@ pub record Stepped (t : Table) (delta : ℕ) (before : Run) (i : ℕ) (after : R
   pub brings : brought t.sink other (at_node before.state.excess i) (at_node after.state.excess i) ≡ gain t delta before.state i
 
 -- What the run keeps beside document 01's state: how far each list was looked through, the next choice, and the tournament of the other nodes' keys.
-pub record Ready (t : Table) (delta : ℕ) (st : State) (looked tree : List ℕ) (next : Choice) : Type 0 where
+pub record Ready (t : Table) (delta : ℕ) (st : State) (looked tree : List ℕ) (next : Option ℕ) : Type 0 where
   pub lists : Looked t st looked
   pub chose : Chose t.nodes delta st.excess st.label tree next
 

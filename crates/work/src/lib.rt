@@ -19,32 +19,32 @@ ghost use Rattle.tournament.specs.Tournament.{key, LowLabels, without, AllBut, C
 ghost use Rattle.steps.specs.Rows.{FarEnds, SpotIs};
 ghost use Rattle.work.specs.Held.{state_in, run_in, Relabels, brought, Stepped, Ready, FarRow, Between, Underway, RanUntil, Ran};
 
-use run::{Choice, Counts, Outcome};
+use run::{Counts, Outcome};
 use steps::{Lowest, Spot};
 
 // What a step answers beside the rows: the counts, and the node beside the chosen one that it changed (after a relabel that is the chosen one again).
-#[derive(Clone, Copy)]
+#[derive(Clone, Copy, Debug, PartialEq, Eq)]
 struct Taken {
     counts: Counts,
     other: u32,
 }
 
 // The steps taken, and the net flow into the sink.
-#[derive(Clone, Copy)]
+#[derive(Clone, Copy, Debug, PartialEq, Eq)]
 struct Tally {
     counts: Counts,
     sink: u64,
 }
 
 // What a turn answers beside the rows: the tally, and the choice of the next step.
-#[derive(Clone, Copy)]
+#[derive(Clone, Copy, Debug, PartialEq, Eq)]
 struct Turned {
     tally: Tally,
-    next: Choice,
+    next: Option<u32>,
 }
 
 // What the run that stops answers beside the rows: the steps taken and the net flow into the sink; K and D of the whole run.
-#[derive(Clone, Copy)]
+#[derive(Clone, Copy, Debug, PartialEq, Eq)]
 pub struct Stop {
     pub counts: Counts,
     pub sink: u64,
@@ -53,7 +53,7 @@ pub struct Stop {
 }
 
 // The choice of the first step: the tournament of the nodes' keys, whose excesses and labels the work row holds, is built.
-fn first_choice(n: u32, work: &[u32], tree: &mut [u32], delta: u64) -> Choice
+fn first_choice(n: u32, work: &[u32], tree: &mut [u32], delta: u64) -> Option<u32>
     requires { (n ≤ 512) × (starts_at n ≤ length work.now) × LowLabels (labels_part n work.now) × (length tree.old ≡ 1024) }
     ensures { Chose n delta (excess_part n work.now) (labels_part n work.now) tree.new result }
 {
@@ -63,7 +63,7 @@ fn first_choice(n: u32, work: &[u32], tree: &mut [u32], delta: u64) -> Choice
 }
 
 // The choice of the next step, after one at node i that may have changed another node j too, which had no key before.
-fn next_choice(n: u32, work: &[u32], tree: &mut [u32], delta: u64, i: u32, j: u32) -> Choice
+fn next_choice(n: u32, work: &[u32], tree: &mut [u32], delta: u64, i: u32, j: u32) -> Option<u32>
     requires n_bound { (n ≤ 512) × (starts_at n ≤ length work.now) × LowLabels (labels_part n work.now) × (length tree.old ≡ 1024) }
     requires node { Node n i × Node n j × AllBut n (without (key delta (excess_part n work.now) (labels_part n work.now)) j) tree.old i }
     ensures { Chose n delta (excess_part n work.now) (labels_part n work.now) tree.new result }
@@ -95,7 +95,7 @@ fn search_list(
     work: &[u32],
     ends: &[u32],
     i: u32,
-) -> Spot
+) -> Option<Spot>
     requires arc_rows { ArcRows n tails.now heads.now capacities.now × WithinCapacities capacities.now flow.now × Node n i }
     requires by_index { (s t : ℕ) × InWork (given_table n s t tails heads capacities) work.now
         × Looked (given_table n s t tails heads capacities) (state_in n flow.now work.now) (looked_part n work.now)
@@ -255,22 +255,20 @@ fn step(
     ensures same_lists { SameLists n work.old work.new }
 {
     match search_list(n, tails, heads, capacities, flow, work, ends, i) {
-        Spot::At(p, k, j) => {
+        Some(spot) => {
             let full = push_from(
-                n, s, t, tails, heads, capacities, flow, work, delta, i, k, j,
+                n, s, t, tails, heads, capacities, flow, work, delta, i, spot.place, spot.far,
             );
-            set_looked(n, work, i, p);
+            set_looked(n, work, i, spot.position);
             Taken {
                 counts: steps::count_push(counts, full),
-                other: j,
+                other: spot.far,
             }
         }
-        Spot::End => {
+        None => {
             let found = label_from_list(n, tails, heads, capacities, flow, work, ends, i);
-            let label = found.label;
-            let at = found.at;
-            set_label(n, work, i, label);
-            set_looked(n, work, i, at);
+            set_label(n, work, i, found.label);
+            set_looked(n, work, i, found.at);
             Taken {
                 counts: steps::count_relabel(counts),
                 other: i,
@@ -293,10 +291,7 @@ fn brought(t: u32, j: u32, had: u32, has: u32) -> u64
     requires { j ≡ t → has ≤ had }
     ensures { (result ≡ brought t j had has) × (result < 2 ^ 32) }
 {
-    if j == t {
-        return rows::wide(had - has);
-    }
-    0
+    if j == t { u64::from(had - has) } else { 0 }
 }
 
 // One step at the chosen node i, with what it brought to the sink added, and the choice of the next one.
@@ -321,29 +316,34 @@ fn turn(
         InPhase table delta (state_in n flow.old work.old) × Node n i × (steps tally.counts < 2 ^ 63) × (tally.sink < 2 ^ 63) }
     requires fact_2 { let table = given_table n s t tails heads capacities in
         let state = state_in n flow.old work.old in
-        ValidLabels table state × Ready table delta state (looked_part n work.old) tree.old (Choice.Node i) }
+        ValidLabels table state × Ready table delta state (looked_part n work.old) tree.old (Some i) }
     ensures counts_value { run_in n flow.new work.new result.tally.counts ≡ step (lent_table n s t tails heads capacities) delta (run_in n flow.old work.old tally.counts) i }
     ensures sink_value { result.tally.sink ≡ tally.sink + gain (lent_table n s t tails heads capacities) delta (state_in n flow.old work.old) i }
     ensures ready { Ready (lent_table n s t tails heads capacities) delta (state_in n flow.new work.new) (looked_part n work.new) tree.new result.next }
     ensures same_lists { SameLists n work.old work.new }
 {
-    let before = tally.counts;
     let had = excess_at(n, work, i);
     let done = step(
-        n, s, t, tails, heads, capacities, flow, work, ends, delta, i, before,
+        n,
+        s,
+        t,
+        tails,
+        heads,
+        capacities,
+        flow,
+        work,
+        ends,
+        delta,
+        i,
+        tally.counts,
     );
-    let counts = done.counts;
-    let other = done.other;
-    let next = next_choice(n, work, tree, delta, i, other);
+    let next = next_choice(n, work, tree, delta, i, done.other);
     let has = excess_at(n, work, i);
     let sum = Tally {
-        counts: counts,
-        sink: tally.sink + brought(t, other, had, has),
+        counts: done.counts,
+        sink: tally.sink + brought(t, done.other, had, has),
     };
-    Turned {
-        tally: sum,
-        next: next,
-    }
+    Turned { tally: sum, next }
 }
 
 // One phase: steps at the chosen node until there is none, or until the net flow into the sink has reached q.
@@ -376,11 +376,8 @@ fn phase(
 {
     let mut next = first_choice(n, work, tree, delta);
     let mut taken = tally;
-    loop {
-        if q <= taken.sink {
-            break;
-        }
-        let Choice::Node(i) = next else {
+    while taken.sink < q {
+        let Some(i) = next else {
             break;
         };
         let turned = turn(
@@ -417,26 +414,19 @@ fn phases(
     ensures sink_value { let table = lent_table n s t tails heads capacities in result.sink ≡ into_sink table (stopped table q).state.flow }
     ensures same_lists { SameLists n work.old work.new }
 {
-    let none = Counts {
-        saturating: 0,
-        nonsaturating: 0,
-        relabels: 0,
-    };
     let mut tally = Tally {
-        counts: none,
-        sink: sink,
+        counts: Counts::default(),
+        sink,
     };
-    let mut done: u32 = 0;
     let mut delta = start::scale(count);
-    while done < count {
+    for _ in 0..count {
         if q <= tally.sink {
             break;
         }
         tally = phase(
             n, s, t, tails, heads, capacities, flow, work, tree, ends, delta, tally, q,
         );
-        delta = delta / 2;
-        done += 1;
+        delta /= 2;
     }
     tally
 }
@@ -486,10 +476,8 @@ fn fill_ends(
     requires by_index { (s t : ℕ) × InWork (given_table n s t tails heads capacities) work.now }
     ensures { (s t : ℕ) → (let table = lent_table n s t tails heads capacities in InWork table work.now → FarRow table ends.new) }
 {
-    let mut p: usize = 0;
-    let mut i: u32 = 0;
-    while i < n {
-        i += 1;
+    let mut p = 0;
+    for i in 1..=n {
         p = steps::put_ends(
             tails,
             heads,
@@ -536,9 +524,8 @@ pub fn run_until(
     let taken = phases(
         n, s, t, tails, heads, capacities, flow, work, &mut tree, &ends, count, sink, q,
     );
-    let counts = taken.counts;
     Stop {
-        counts: counts,
+        counts: taken.counts,
         sink: taken.sink,
         phases: count,
         scale: d,
@@ -561,9 +548,8 @@ pub fn run(
     ensures { Ran (lent_table n s t tails heads capacities) work.old result flow.new work.new }
 {
     let stop = run_until(n, s, t, tails, heads, capacities, 4096000001, flow, work);
-    let counts = stop.counts;
     Outcome {
-        counts: counts,
+        counts: stop.counts,
         phases: stop.phases,
         scale: stop.scale,
     }

@@ -1,6 +1,5 @@
 -- `go_on_with` meets its contract. The invariant: the rows stay ready, lead to the same end, and what is known of the labels holds. The measure is what the capacities out of the source still allow.
 use mathlib.Core.Path.{◌≡◌}
-use lib.ListN.{length}
 use Rattle.shortest.specs.Augment.{bound_network, settled}
 use Rattle.shortest.specs.Rows.{row_ways, Ready}
 use Rattle.augment.specs.Walks.{Known}
@@ -9,8 +8,7 @@ use Rattle.augment.proofs.go_on_with.Given as goal
 
 abbrev pub invariant-loop : goal.invariant-loop
 invariant-loop l =
-    ((length l.flow ≡ length l.initial.flow) × (length l.dist ≡ length l.initial.dist) × (length l.lowest ≡ length l.initial.lowest) × (length l.far ≡ length l.initial.far) × (length l.chain ≡ length l.initial.chain))
-    × (Ready l.n l.s l.t l.tails l.heads l.capacities l.minimums l.flow × (settled (bound_network l.n l.s l.t l.tails l.heads l.capacities l.minimums) l.flow ≡ settled (bound_network l.n l.s l.t l.tails l.heads l.capacities l.minimums) l.initial.flow))
+    (Ready l.n l.s l.t l.tails l.heads l.capacities l.minimums l.flow × (settled (bound_network l.n l.s l.t l.tails l.heads l.capacities l.minimums) l.flow ≡ settled (bound_network l.n l.s l.t l.tails l.heads l.capacities l.minimums) l.initial.flow))
     × Known (row_ways l.tails l.heads l.capacities l.minimums l.flow) l.n l.t l.dist l.lowest l.far
 
 abbrev pub decreases-loop : goal.decreases-loop

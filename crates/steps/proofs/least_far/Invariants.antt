@@ -5,16 +5,15 @@ use Rattle.steps.specs.Rows.{FarEnds}
 use Rattle.run.specs.Rows.{state_of}
 use Rattle.table.specs.Table.{table_of}
 use Rattle.run.specs.Relabel.{least_far}
-use lib.ListN.{length, drop}
+use lib.ListN.{drop}
 use mathlib.Core.List.{List}
 use mathlib.Core.Path.{◌≡◌}
-use Prim.Native.Nat.{ℕ, ◌+◌, ◌≤◌, ◌-◌}
+use Prim.Native.Nat.{ℕ, ◌+◌, ◌≤◌}
 use Rattle.steps.proofs.least_far.Given as goal
 
 abbrev pub invariant-loop-j : goal.invariant-loop-j
 invariant-loop-j l =
-    (l.j ≤ length l.list)
-    × (l.at ≤ l.j)
+    (l.at ≤ l.j)
     × (l.least ≤ l.best)
     × ((n s t : ℕ) (heads excess : List ℕ)
     → FarEnds (table_of n s t l.tails heads l.capacities) l.i l.list l.ends
@@ -22,6 +21,3 @@ invariant-loop-j l =
     ≡ least_far (table_of n s t l.tails heads l.capacities) (state_of l.flow excess l.labels) l.i (drop l.j l.list) l.least)
     × HighBefore (table_of n s t l.tails heads l.capacities) (state_of l.flow excess l.labels) l.i l.list l.j l.least
     × HighBefore (table_of n s t l.tails heads l.capacities) (state_of l.flow excess l.labels) l.i l.list l.at (l.least + 1))
-
-abbrev pub decreases-loop-j : goal.decreases-loop-j
-decreases-loop-j l = length l.list - l.j

@@ -3,10 +3,7 @@ use mathlib.Core.Path.{ap}
 use Prim.Native.Nat.{ℕ, ◌+◌}
 use Rattle.steps.proofs.new_label.Goals as goal
 
-pub returns : goal.returns
-returns c = record {
-  at_in_bounds = c.least_far-found.ensures.label_le_best.1;
-  by_index = λ n s t heads excess ends_are.
-      let least = c.least_far-found.ensures.by_index n s t heads excess ends_are in
-      (ap (λ (x : ℕ). x + 1) least.0, least.1);
-}
+pub returns-clause-by_index : goal.returns-clause-by_index
+returns-clause-by_index c n s t heads excess ends_are =
+    let least = c.least_far-found.ensures.by_index n s t heads excess ends_are in
+    (ap (λ (x : ℕ). x + 1) least.0, least.1)

@@ -2,18 +2,12 @@
 use Rattle.rows.specs.Row.{at_place}
 use Rattle.arcs.specs.Residual.{far}
 use Rattle.table.specs.Table.{table_of}
-use lib.ListN.{length}
 use mathlib.Core.List.{List}
 use mathlib.Core.Path.{◌≡◌}
-use Prim.Native.Nat.{ℕ, ◌+◌, ◌-◌, ◌≤◌, ◌<◌}
+use Prim.Native.Nat.{ℕ, ◌+◌, ◌<◌}
 use Rattle.steps.proofs.put_ends.Given as goal
 
 abbrev pub invariant-loop-j : goal.invariant-loop-j
 invariant-loop-j l =
-    (l.j ≤ length l.list)
-    × (length l.ends ≡ length l.initial.ends)
-    × ((q : ℕ) → q < l.p → at_place l.ends q ≡ at_place l.initial.ends q)
+    ((q : ℕ) → q < l.p → at_place l.ends q ≡ at_place l.initial.ends q)
     × ((n s t : ℕ) (capacities : List ℕ) (q : ℕ) → q < l.j → at_place l.ends (l.p + q) ≡ far (table_of n s t l.tails l.heads capacities) l.i (at_place l.list q))
-
-abbrev pub decreases-loop-j : goal.decreases-loop-j
-decreases-loop-j l = length l.list - l.j

@@ -3,18 +3,13 @@ use Rattle.looking.specs.Looked.{NoneBefore}
 use Rattle.steps.specs.Rows.{FarEnds}
 use Rattle.run.specs.Rows.{state_of}
 use Rattle.table.specs.Table.{table_of}
-use lib.ListN.{length}
 use mathlib.Core.List.{List}
-use Prim.Native.Nat.{ℕ, ◌≤◌, ◌-◌}
+use Prim.Native.Nat.{ℕ}
 use Rattle.steps.proofs.search.Given as goal
 
 abbrev pub invariant-loop-j : goal.invariant-loop-j
 invariant-loop-j l =
-    (l.j ≤ length l.list)
-    × ((n s t : ℕ) (heads excess : List ℕ)
+    (n s t : ℕ) (heads excess : List ℕ)
     → FarEnds (table_of n s t l.tails heads l.capacities) l.i l.list l.ends
     → NoneBefore (table_of n s t l.tails heads l.capacities) (state_of l.flow excess l.labels) l.i l.list l.from
-    → NoneBefore (table_of n s t l.tails heads l.capacities) (state_of l.flow excess l.labels) l.i l.list l.j)
-
-abbrev pub decreases-loop-j : goal.decreases-loop-j
-decreases-loop-j l = length l.list - l.j
+    → NoneBefore (table_of n s t l.tails heads l.capacities) (state_of l.flow excess l.labels) l.i l.list l.j

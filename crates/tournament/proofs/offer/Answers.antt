@@ -3,11 +3,11 @@ use Rattle.tournament.proofs.Standing.{least_but, names}
 use native.Mathlib.Omega.{arith}
 use Rattle.tournament.proofs.offer.Goals as goal
 
-pub returns-then-x-least : goal.returns-then-x-least
-returns-then-x-least c n keys few own node is but = (
+pub returns-then-x-min : goal.returns-then-x-min
+returns-then-x-min c n keys few own node is but = (
   c.args.x,
-  least_but n keys c.args.tree.now own few c.args.i c.args.x node is (omega (arith, c.if-x-least.true, c.least.ensures)) but,
-  names n keys own c.args.i c.args.x node is (omega (arith, c.if-x-least.true, c.least.ensures)),
+  least_but n keys c.args.tree.now own few c.args.i c.args.x node is (omega (arith, c.if-x-min.true, c.min.ensures)) but,
+  names n keys own c.args.i c.args.x node is (omega (arith, c.if-x-min.true, c.min.ensures)),
 )
 
 pub returns : goal.returns

@@ -9,8 +9,3 @@ returns-then-y-x c n keys few own at_i at_j is js but =
     let two = apart keys given.i given.j given.x given.y is js c.if-y-x.true in
     c.offer.ensures n keys few own at_j js
     (none, c.stand.ensures n (without keys given.j) few at_i (rekeyed_other keys given.i given.j given.x none two is) but)
-
-pub returns : goal.returns
-returns c n keys few own at_i at_j is js but =
-    let given = c.args in
-    c.offer-2.ensures n keys few own at_i is (c.enter.ensures n keys given.i few own at_i at_j is js c.if-y-x.false but)

@@ -3,12 +3,8 @@ use Rattle.tournament.specs.Tournament.{key, leaf_of}
 use lib.ListN.{length}
 use Rattle.rows.specs.Row.{at_place}
 use mathlib.Core.Path.{◌≡◌}
-use Prim.Native.Nat.{ℕ, ◌≤◌, ◌<◌, ◌+◌, ◌-◌}
+use Prim.Native.Nat.{ℕ, ◌<◌, ◌+◌}
 use Rattle.tournament.proofs.plant.Given as goal
 
 abbrev pub invariant-loop-j : goal.invariant-loop-j
-invariant-loop-j l =
-    (l.j ≤ 512) × (length l.tree ≡ 1024) × ((i : ℕ) → i < l.j → at_place l.tree (512 + i) ≡ leaf_of (length l.labels) (key l.delta l.excess l.labels) i)
-
-abbrev pub decreases-loop-j : goal.decreases-loop-j
-decreases-loop-j l = 512 - l.j
+invariant-loop-j l = (i : ℕ) → i < l.j → at_place l.tree (512 + i) ≡ leaf_of (length l.labels) (key l.delta l.excess l.labels) i

@@ -2,7 +2,6 @@
 use Prim.Native.Nat.{ℕ, ◌-◌, ◌≤◌}
 use borrow.Rule.Slice.PartMut.{put_mid}
 use Rattle.table.specs.Table.{table_of}
-use Rattle.table.specs.Accepted.{ArcRows}
 use Rattle.run.specs.Start.{start_label_at}
 use Rattle.run.specs.Start.{start as begun}
 use Rattle.rows.specs.Row.{by_node}
@@ -11,20 +10,8 @@ use Rattle.arcs.proofs.Work.{length_excess, length_labels, excess_length, both_e
 use Rattle.work.proofs.Stepping.{same_state, start_is}
 use lib.ListN.{length}
 use native.Mathlib.Omega.{arith}
-use mathlib.Core.Path.{◌≡◌, refl, ap, ◌∙◌, subst⁻¹}
+use mathlib.Core.Path.{◌≡◌, refl, ap, ◌∙◌}
 use Rattle.work.proofs.begin.Goals as goal
-
-pub start_excess-requires : goal.start_excess-requires
-start_excess-requires c =
-    let given = c.args in
-    subst⁻¹ (λ (m : ℕ). ArcRows m given.tails.now given.heads.now given.capacities.now) (length_excess given.n given.work.now c.requires.n_in_bounds.0) c.requires.arc_rows
-
-pub start_labels-requires : goal.start_labels-requires
-start_labels-requires c =
-    let excess_size : length c.start_excess.new.excess ≡ c.args.n = c.start_excess.auto.excess ∙ length_excess c.args.n c.args.work.now c.requires.n_in_bounds.0 in
-    let roomy : starts_at c.args.n ≤ length (put_mid 0 (c.args.n - 0) c.args.work.now c.start_excess.new.excess) = omega (arith, excess_length c.args.n c.args.work.now c.start_excess.new.excess c.requires.n_in_bounds.0 excess_size, c.requires.n_in_bounds.0) in
-    let long_labels : length (labels_part c.args.n (put_mid 0 (c.args.n - 0) c.args.work.now c.start_excess.new.excess)) ≡ c.args.n = length_labels c.args.n (put_mid 0 (c.args.n - 0) c.args.work.now c.start_excess.new.excess) roomy in
-    omega (arith, long_labels, c.requires.arc_rows.ends.few_nodes)
 
 pub returns : goal.returns
 returns c =

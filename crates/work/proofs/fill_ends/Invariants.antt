@@ -1,21 +1,14 @@
 -- `fill_ends` meets its contract. The loop's invariant: the far ends of the lists of nodes 1 to i stand one behind the other, and p is where they end.
-use Prim.Native.Nat.{ℕ, ◌-◌, ◌≤◌}
+use Prim.Native.Nat.{ℕ, ◌-◌}
 use mathlib.Core.Path.{◌≡◌}
-use lib.ListN.{length}
 use Rattle.table.specs.Table.{table_of}
 use Rattle.arcs.specs.Residual.{list}
-use Rattle.arcs.specs.Lists.{joined}
+use Rattle.arcs.specs.Sort.{entries_before}
 use Rattle.arcs.specs.Work.{InWork}
 use Rattle.work.specs.Held.{FarTo}
 use Rattle.work.proofs.fill_ends.Given as goal
 
 abbrev pub invariant-loop-i : goal.invariant-loop-i
 invariant-loop-i l =
-    (l.i ≤ l.n)
-    × (length l.ends ≡ length l.initial.ends)
-    × ((s t : ℕ)
-    → InWork (table_of l.n s t l.tails l.heads l.capacities) l.work
-    → (l.p ≡ length (joined (list (table_of l.n s t l.tails l.heads l.capacities)) l.i)) × FarTo (table_of l.n s t l.tails l.heads l.capacities) l.i l.ends)
-
-abbrev pub decreases-loop-i : goal.decreases-loop-i
-decreases-loop-i l = l.n - l.i
+    (s t : ℕ) → InWork (table_of l.n s t l.tails l.heads l.capacities) l.work
+    → (l.p ≡ entries_before (list (table_of l.n s t l.tails l.heads l.capacities)) l.i) × FarTo (table_of l.n s t l.tails l.heads l.capacities) (l.i - 1) l.ends

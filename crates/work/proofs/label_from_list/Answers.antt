@@ -14,10 +14,6 @@ use mathlib.Core.List.{List}
 use mathlib.Core.Path.{refl, ap, sym, subst, subst⁻¹}
 use Rattle.work.proofs.label_from_list.Goals as goal
 
-pub node_ends-requires : goal.node_ends-requires
-node_ends-requires c =
-    (table_of c.args.n c.requires.by_index.0 c.requires.by_index.1 c.args.tails.now c.args.heads.now c.args.capacities.now, c.requires.by_index.2, refl, c.requires.arc_rows.2, c.requires.by_index.3)
-
 pub new_label-requires : goal.new_label-requires
 new_label-requires c =
     let given = c.args in

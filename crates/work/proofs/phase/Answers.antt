@@ -1,10 +1,10 @@
 -- `phase` meets its contract. The loop's invariant: the phase stands at a moment (`Going`), the lists are as they were, how far they were looked
 -- through is right, the next choice is made, and the tournament is that of the other nodes' keys.
+use Rattle.std.specs.Prelude.{Some}
 use Prim.Native.Nat.{ℕ, ◌<◌}
 use Rattle.table.specs.Table.{Table, table_of}
 use Rattle.run.specs.Choice.{choose}
 use Rattle.run.specs.Phase.{Run}
-use Rattle.run.specs.declared.Choice.TheVariants.{Node}
 use Rattle.tournament.specs.Tournament.{LowLabels}
 use Rattle.arcs.specs.Work.{labels_part, looked_part, InWork}
 use Rattle.arcs.proofs.Work.{length_labels, lists_on, lists_idle, in_work_kept}
@@ -15,7 +15,7 @@ use Rattle.work.proofs.Phasing.{amid_in_phase, amid_valid, amid_few, amid_node, 
 use Rattle.work.proofs.Going.{Going, going_first, going_small, going_step, going_less}
 use mathlib.Core.List.{List}
 use native.Mathlib.Omega.{arith}
-use mathlib.Core.Path.{◌≡◌, refl, sym, ◌∙◌, subst}
+use mathlib.Core.Path.{◌≡◌, sym, ◌∙◌, subst}
 use Rattle.work.proofs.phase.Goals as goal
 
 pub first_choice-next-requires : goal.first_choice-next-requires
@@ -33,9 +33,6 @@ loop-taken-init c =
     let begins : Going table_here c.args.q c.args.delta run_of run_of c.args.tally.sink = going_first table_here c.requires.fact.0 c.args.q c.args.delta run_of c.args.tally.sink c.requires.fact_2.0 c.requires.fact_2.1 in (
       begins,
       lists_idle c.args.n c.args.work.now,
-      refl,
-      refl,
-      refl,
       record { lists = c.requires.fact_3.0; chose = c.first_choice-next.ensures },
     )
 
@@ -46,13 +43,13 @@ turn-turned-requires c =
     let table : Table = table_here in
     let first : Run = run_of in
     let here : Run = run_in c.args.n c.loop-taken.flow c.loop-taken.work c.loop-taken.taken.counts in
-    let in_work : InWork table c.loop-taken.work = in_work_kept table c.args.work.now c.loop-taken.work c.loop-taken.invariant.1 (sym c.loop-taken.invariant.3) c.requires.fact.1 in
-    let answer : c.loop-taken.next ≡ choose table c.args.delta here.state = choice_is table c.args.delta here.state c.loop-taken.next c.loop-taken.tree c.loop-taken.invariant.5.chose in
-    let node : ℕ = c.in-Node.i in
-    let is_node : c.loop-taken.next ≡ Node node = c.in-Node.is in
-    let chosen : choose table c.args.delta here.state ≡ Node node = sym answer ∙ is_node in
+    let in_work : InWork table c.loop-taken.work = in_work_kept table c.args.work.now c.loop-taken.work c.loop-taken.invariant.1 (sym c.loop-taken.auto.work) c.requires.fact.1 in
+    let answer : c.loop-taken.next ≡ choose table c.args.delta here.state = choice_is table c.args.delta here.state c.loop-taken.next c.loop-taken.tree c.loop-taken.invariant.2.chose in
+    let node : ℕ = c.in-Some.i in
+    let is_node : c.loop-taken.next ≡ Some node = c.in-Some.is in
+    let chosen : choose table c.args.delta here.state ≡ Some node = sym answer ∙ is_node in
     let looked : List ℕ = looked_part c.args.n c.loop-taken.work in
-    let ready : Ready table c.args.delta here.state looked c.loop-taken.tree (Node node) = subst (Ready table c.args.delta here.state looked c.loop-taken.tree) is_node c.loop-taken.invariant.5 in
+    let ready : Ready table c.args.delta here.state looked c.loop-taken.tree (Some node) = subst (Ready table c.args.delta here.state looked c.loop-taken.tree) is_node c.loop-taken.invariant.2 in
     let amid = c.loop-taken.invariant.0.amid in record {
       arc_rows = (c.requires.fact.0.rows, in_work, c.requires.fact.2);
       fact = (
@@ -71,10 +68,10 @@ loop-taken-smaller c =
     let table : Table = table_here in
     let first : Run = run_of in
     let here : Run = run_in c.args.n c.loop-taken.flow c.loop-taken.work c.loop-taken.taken.counts in
-    let answer : c.loop-taken.next ≡ choose table c.args.delta here.state = choice_is table c.args.delta here.state c.loop-taken.next c.loop-taken.tree c.loop-taken.invariant.5.chose in
-    let node : ℕ = c.in-Node.i in
-    let is_node : c.loop-taken.next ≡ Node node = c.in-Node.is in
-    let chosen : choose table c.args.delta here.state ≡ Node node = sym answer ∙ is_node in
+    let answer : c.loop-taken.next ≡ choose table c.args.delta here.state = choice_is table c.args.delta here.state c.loop-taken.next c.loop-taken.tree c.loop-taken.invariant.2.chose in
+    let node : ℕ = c.in-Some.i in
+    let is_node : c.loop-taken.next ≡ Some node = c.in-Some.is in
+    let chosen : choose table c.args.delta here.state ≡ Some node = sym answer ∙ is_node in
     going_less table c.requires.fact.0 c.args.q c.args.delta first here c.loop-taken.taken.sink c.loop-taken.invariant.0 node chosen _ c.turn-turned.ensures.counts_value
 
 pub loop-taken-preserved : goal.loop-taken-preserved
@@ -84,59 +81,24 @@ loop-taken-preserved c =
     let table : Table = table_here in
     let first : Run = run_of in
     let here : Run = run_in c.args.n c.loop-taken.flow c.loop-taken.work c.loop-taken.taken.counts in
-    let answer : c.loop-taken.next ≡ choose table c.args.delta here.state = choice_is table c.args.delta here.state c.loop-taken.next c.loop-taken.tree c.loop-taken.invariant.5.chose in
-    let node : ℕ = c.in-Node.i in
-    let is_node : c.loop-taken.next ≡ Node node = c.in-Node.is in
-    let chosen : choose table c.args.delta here.state ≡ Node node = sym answer ∙ is_node in
-    let below : c.loop-taken.taken.sink < c.args.q = omega (arith, c.if-q-taken.false) in
+    let answer : c.loop-taken.next ≡ choose table c.args.delta here.state = choice_is table c.args.delta here.state c.loop-taken.next c.loop-taken.tree c.loop-taken.invariant.2.chose in
+    let node : ℕ = c.in-Some.i in
+    let is_node : c.loop-taken.next ≡ Some node = c.in-Some.is in
+    let chosen : choose table c.args.delta here.state ≡ Some node = sym answer ∙ is_node in
+    let below : c.loop-taken.taken.sink < c.args.q = c.loop-taken-test.true in
     let inv = c.loop-taken.invariant in (
       going_step table c.requires.fact.0 c.args.q c.args.delta first here c.loop-taken.taken.sink inv.0 below
           node chosen _ c.turn-turned.result.tally.sink c.turn-turned.ensures.counts_value c.turn-turned.ensures.sink_value,
       lists_on inv.1 c.turn-turned.ensures.same_lists,
-      c.turn-turned.auto.flow ∙ inv.2,
-      c.turn-turned.auto.work ∙ inv.3,
-      c.turn-turned.auto.tree ∙ inv.4,
       c.turn-turned.ensures.ready,
     )
 
-pub shape_of-flow-then-q-taken : goal.shape_of-flow-then-q-taken
-shape_of-flow-then-q-taken c = c.loop-taken.invariant.2
-
-pub shape_of-work-then-q-taken : goal.shape_of-work-then-q-taken
-shape_of-work-then-q-taken c = c.loop-taken.invariant.3
-
-pub shape_of-tree-then-q-taken : goal.shape_of-tree-then-q-taken
-shape_of-tree-then-q-taken c = c.loop-taken.invariant.4 ∙ c.first_choice-next.auto.tree
-
-pub returns-then-q-taken : goal.returns-then-q-taken
-returns-then-q-taken c =
-    let inv = c.loop-taken.invariant in record {
-      underway = inv.0.under;
-      counts_value = λ below. absurd (omega (arith, c.if-q-taken.true, below));
-      looked = inv.5.lists;
-      same_lists = inv.1;
-    }
-
-pub shape_of-flow-in_default : goal.shape_of-flow-in_default
-shape_of-flow-in_default c = c.loop-taken.invariant.2
-
-pub shape_of-work-in_default : goal.shape_of-work-in_default
-shape_of-work-in_default c = c.loop-taken.invariant.3
-
-pub shape_of-tree-in_default : goal.shape_of-tree-in_default
-shape_of-tree-in_default c = c.loop-taken.invariant.4 ∙ c.first_choice-next.auto.tree
-
-pub returns-in_default : goal.returns-in_default
-returns-in_default c =
+pub returns-in_default-clause-counts_value : goal.returns-in_default-clause-counts_value
+returns-in_default-clause-counts_value c _ =
     let table_here : Table = table_of c.args.n c.args.s c.args.t c.args.tails.now c.args.heads.now c.args.capacities.now in
     let run_of : Run = run_in c.args.n c.args.flow.now c.args.work.now c.args.tally.counts in
     let table : Table = table_here in
     let first : Run = run_of in
     let here : Run = run_in c.args.n c.loop-taken.flow c.loop-taken.work c.loop-taken.taken.counts in
-    let answer : c.loop-taken.next ≡ choose table c.args.delta here.state = choice_is table c.args.delta here.state c.loop-taken.next c.loop-taken.tree c.loop-taken.invariant.5.chose in
-    record {
-      underway = c.loop-taken.invariant.0.under;
-      counts_value = λ _. amid_end table c.requires.fact.0 c.args.delta first here c.loop-taken.invariant.0.amid (sym answer ∙ c.in_default.is);
-      looked = c.loop-taken.invariant.5.lists;
-      same_lists = c.loop-taken.invariant.1;
-    }
+    let answer : c.loop-taken.next ≡ choose table c.args.delta here.state = choice_is table c.args.delta here.state c.loop-taken.next c.loop-taken.tree c.loop-taken.invariant.2.chose in
+    amid_end table c.requires.fact.0 c.args.delta first here c.loop-taken.invariant.0.amid (sym answer ∙ c.in_default.is)

@@ -5,17 +5,12 @@ use Rattle.arcs.specs.Work.{looked_part, SameLists}
 use Rattle.work.specs.Held.{state_in, run_in, Ready}
 use Rattle.work.proofs.Phasing.{left}
 use Rattle.work.proofs.Going.{Going}
-use lib.ListN.{length}
-use mathlib.Core.Path.{◌≡◌}
 use Rattle.work.proofs.phase.Given as goal
 
 abbrev pub invariant-loop-taken : goal.invariant-loop-taken
 invariant-loop-taken l =
     Going (table_of l.n l.s l.t l.tails l.heads l.capacities) l.q l.delta (run_in l.n l.initial.flow l.initial.work l.initial.taken.counts) (run_in l.n l.flow l.work l.taken.counts) l.taken.sink
     × SameLists l.n l.initial.work l.work
-    × (length l.flow ≡ length l.initial.flow)
-    × (length l.work ≡ length l.initial.work)
-    × (length l.tree ≡ length l.initial.tree)
     × Ready (table_of l.n l.s l.t l.tails l.heads l.capacities) l.delta (state_in l.n l.flow l.work) (looked_part l.n l.work) l.tree l.next
 
 abbrev pub decreases-loop-taken : goal.decreases-loop-taken

@@ -1,25 +1,17 @@
--- `phases` meets its contract. The loop's invariant: the run stands after `done` phases, or has reached q; the lists are as they were, and how far they were looked through is right.
-use Prim.Native.Nat.{◌-◌, ◌≤◌, ◌<◌}
+-- `phases` meets its contract. The loop's invariant: the run stands after as many phases as were counted, or has reached q; the lists are as they were, and how far they were looked through is right.
+use Prim.Native.Nat.{◌<◌}
 use Rattle.table.specs.Table.{table_of}
 use Rattle.run.specs.Phase.{delta_after, after}
 use Rattle.looking.specs.Looked.{Looked}
 use Rattle.arcs.specs.Work.{looked_part, SameLists}
 use Rattle.work.specs.Held.{state_in, run_in, Underway}
-use lib.ListN.{length}
 use mathlib.Core.Path.{◌≡◌}
 use Rattle.work.proofs.phases.Given as goal
 
-abbrev pub invariant-loop-done : goal.invariant-loop-done
-invariant-loop-done l =
-    (l.done ≤ l.count)
-    × (l.delta ≡ delta_after (table_of l.n l.s l.t l.tails l.heads l.capacities) l.done)
+abbrev pub invariant-loop : goal.invariant-loop
+invariant-loop l =
+    (l.delta ≡ delta_after (table_of l.n l.s l.t l.tails l.heads l.capacities) l.counter)
     × Underway (table_of l.n l.s l.t l.tails l.heads l.capacities) l.q (run_in l.n l.flow l.work l.tally.counts) l.tally.sink
-    × (l.tally.sink < l.q → run_in l.n l.flow l.work l.tally.counts ≡ after (table_of l.n l.s l.t l.tails l.heads l.capacities) l.done)
+    × (l.tally.sink < l.q → run_in l.n l.flow l.work l.tally.counts ≡ after (table_of l.n l.s l.t l.tails l.heads l.capacities) l.counter)
     × SameLists l.n l.initial.work l.work
-    × (length l.flow ≡ length l.initial.flow)
-    × (length l.work ≡ length l.initial.work)
-    × (length l.tree ≡ length l.initial.tree)
     × Looked (table_of l.n l.s l.t l.tails l.heads l.capacities) (state_in l.n l.flow l.work) (looked_part l.n l.work)
-
-abbrev pub decreases-loop-done : goal.decreases-loop-done
-decreases-loop-done l = l.count - l.done

@@ -18,20 +18,6 @@ use mathlib.Core.Path.{◌≡◌, refl, ap, sym, ◌∙◌}
 use borrow.Author.Rules.{rules}
 use Rattle.work.proofs.run_until.Goals as goal
 
-pub begin-requires : goal.begin-requires
-begin-requires c = record {
-  arc_rows = c.requires.0.rows;
-  n_in_bounds = (omega (arith, c.requires.1.room), c.requires.2);
-}
-
-pub clear_looked-requires : goal.clear_looked-requires
-clear_looked-requires c =
-    (c.requires.0.rows.ends.few_nodes, omega (arith, c.requires.1.room, c.begin.auto.work))
-
-pub count_phases-count-requires : goal.count_phases-count-requires
-count_phases-count-requires c =
-    omega (arith, c.requires.1.room, c.begin.auto.work, c.clear_looked.auto.work)
-
 pub value-sink-requires : goal.value-sink-requires
 value-sink-requires c =
     let table : Table = table_of c.args.n c.args.s c.args.t c.args.tails.now c.args.heads.now c.args.capacities.now in
@@ -77,12 +63,6 @@ phases-taken-requires c =
       fact_2 = (state_is, count_is, sink_is);
       fact_3 = (looked, search rules);
     }
-
-pub shape_of-flow : goal.shape_of-flow
-shape_of-flow c = c.phases-taken.auto.flow ∙ c.begin.auto.flow
-
-pub shape_of-work : goal.shape_of-work
-shape_of-work c = c.phases-taken.auto.work ∙ c.clear_looked.auto.work ∙ c.begin.auto.work
 
 pub returns : goal.returns
 unfolding phase_count

@@ -15,10 +15,6 @@ use mathlib.Core.List.{List}
 use mathlib.Core.Path.{refl, ap, sym, ◌∙◌, subst, subst⁻¹}
 use Rattle.work.proofs.search_list.Goals as goal
 
-pub node_ends-requires : goal.node_ends-requires
-node_ends-requires c =
-    (table_of c.args.n c.requires.by_index.0 c.requires.by_index.1 c.args.tails.now c.args.heads.now c.args.capacities.now, c.requires.by_index.2, refl, c.requires.arc_rows.2, c.requires.by_index.4)
-
 pub search-requires : goal.search-requires
 search-requires c =
     let given = c.args in

@@ -1,11 +1,12 @@
 -- `step` meets its contract: a push along the place found, or else a relabel; and how far the list was looked through is put down.
+use Rattle.std.specs.Prelude.{Some}
 use Prim.Native.Nat.{ℕ, ◌-◌, ◌<◌}
 use Rattle.table.specs.Table.{Table, table_of}
 use Rattle.arcs.specs.Residual.{list}
 use Rattle.run.specs.Start.{State}
 use Rattle.arcs.proofs.Members.{list_stands}
 use Rattle.steps.specs.Rows.{SpotIs}
-use Rattle.steps.specs.declared.Spot.TheVariants.{At}
+use Rattle.steps.specs.declared.Spot.{Spot}
 use Rattle.steps.proofs.Searching.{far_node}
 use Rattle.arcs.specs.Work.{looked_part}
 use Rattle.arcs.proofs.Work.{lists_kept, looked_kept, lists_on}
@@ -13,78 +14,30 @@ use Rattle.work.specs.Held.{state_in}
 use Rattle.work.proofs.Stepping.{same_state}
 use Rattle.work.proofs.Advancing.{stepped_push, stepped_relabel}
 use lib.ListN.{length, set}
-use native.Mathlib.Omega.{arith}
 use mathlib.Core.List.{List}
 use mathlib.Core.Path.{refl, ap, ◌∙◌, subst, subst⁻¹}
 use Rattle.work.proofs.step.Goals as goal
 
-pub search_list-requires : goal.search_list-requires
-search_list-requires c = record {
-  arc_rows = (c.requires.arc_rows.0, c.requires.in_phase.0.within, c.requires.in_phase.1);
-  by_index = (c.args.s, c.args.t, c.requires.arc_rows.1, c.requires.fact.1, c.requires.arc_rows.2);
-}
-
-pub push_from-full-requires : goal.push_from-full-requires
-push_from-full-requires c =
+pub returns-in-Some : goal.returns-in-Some
+returns-in-Some c =
     let table : Table = table_of c.args.n c.args.s c.args.t c.args.tails.now c.args.heads.now c.args.capacities.now in
     let state : State = state_in c.args.n c.args.flow.now c.args.work.now in
     let spot : SpotIs table state c.args.i (list table c.args.i) c.search_list.result = c.search_list.ensures c.args.s c.args.t c.requires.arc_rows.1 c.requires.arc_rows.2 c.requires.fact.1 in
-    let position : ℕ = c.in-At.p in
-    let place : ℕ = c.in-At.k in
-    let there : ℕ = c.in-At.j in
-    let spot_at : SpotIs table state c.args.i (list table c.args.i) (At position place there) = subst (SpotIs table state c.args.i (list table c.args.i)) c.in-At.is spot in
-    let below : place < length c.args.capacities.now = subst⁻¹ (λ (k : ℕ). k < length c.args.capacities.now) spot_at.1 (list_stands table c.args.i position spot_at.0).0 in
-    record {
-      arc_rows = (c.requires.arc_rows.0, omega (arith, c.requires.arc_rows.1.room));
-      fact = (c.requires.in_phase.0, c.requires.in_phase.1, below, spot_at.4);
-    }
-
-pub set_looked-requires : goal.set_looked-requires
-set_looked-requires c =
-    (c.requires.arc_rows.0.ends.few_nodes, omega (arith, c.requires.arc_rows.1.room, c.push_from-full.auto.work), c.requires.in_phase.1)
-
-pub count_push-requires : goal.count_push-requires
-count_push-requires c = c.requires.in_phase.2
-
-pub label_from_list-found-requires : goal.label_from_list-found-requires
-label_from_list-found-requires c = record {
-  arc_rows = (c.requires.arc_rows.0, c.requires.in_phase.0.within, c.requires.in_phase.1);
-  by_index = (c.args.s, c.args.t, c.requires.arc_rows.1, c.requires.arc_rows.2);
-}
-
-pub set_label-requires : goal.set_label-requires
-set_label-requires c =
-    (omega (arith, c.requires.arc_rows.1.room), c.requires.in_phase.1)
-
-pub set_looked-requires-in-End : goal.set_looked-requires-in-End
-set_looked-requires-in-End c =
-    (c.requires.arc_rows.0.ends.few_nodes, omega (arith, c.requires.arc_rows.1.room, c.set_label.auto.work), c.requires.in_phase.1)
-
-pub count_relabel-requires : goal.count_relabel-requires
-count_relabel-requires c = c.requires.in_phase.2
-
-pub returns-in-At : goal.returns-in-At
-returns-in-At c =
-    let table : Table = table_of c.args.n c.args.s c.args.t c.args.tails.now c.args.heads.now c.args.capacities.now in
-    let state : State = state_in c.args.n c.args.flow.now c.args.work.now in
-    let spot : SpotIs table state c.args.i (list table c.args.i) c.search_list.result = c.search_list.ensures c.args.s c.args.t c.requires.arc_rows.1 c.requires.arc_rows.2 c.requires.fact.1 in
-    let position : ℕ = c.in-At.p in
-    let place : ℕ = c.in-At.k in
-    let there : ℕ = c.in-At.j in
-    let spot_at : SpotIs table state c.args.i (list table c.args.i) (At position place there) = subst (SpotIs table state c.args.i (list table c.args.i)) c.in-At.is spot in
-    let below : place < length c.args.capacities.now = subst⁻¹ (λ (k : ℕ). k < length c.args.capacities.now) spot_at.1 (list_stands table c.args.i position spot_at.0).0 in
+    let at : Spot = c.in-Some.spot in
+    let spot_at : SpotIs table state c.args.i (list table c.args.i) (Some at) = subst (SpotIs table state c.args.i (list table c.args.i)) c.in-Some.is spot in
+    let below : at.place < length c.args.capacities.now = subst⁻¹ (λ (k : ℕ). k < length c.args.capacities.now) spot_at.1 (list_stands table c.args.i at.position spot_at.0).0 in
     let given = c.args in
     let work_then = c.push_from-full.new.work in record {
       fact_2 = stepped_push table given.delta state given.counts given.i (looked_part given.n given.work.now) c.requires.arc_rows.0.ends.few_nodes c.requires.in_phase.0.fits c.requires.in_phase.1
-          c.requires.fact.0 c.requires.fact.1 _ _ _ position place there c.push_from-full.result spot_at
-          (far_node given.s given.t given.i c.requires.arc_rows.0 below there spot_at.4)
+          c.requires.fact.0 c.requires.fact.1 _ _ _ at c.push_from-full.result spot_at
+          (far_node given.s given.t given.i c.requires.arc_rows.0 below at.far spot_at.4)
           (same_state refl c.set_looked.ensures.work_value c.set_looked.ensures.work_value_2 ∙ c.push_from-full.ensures.work_value) c.push_from-full.ensures.value c.count_push.ensures
-          (c.set_looked.ensures.work_value_3 ∙ ap (λ (row : List ℕ). set row (given.i - 1) position) (looked_kept given.n given.work.now work_then c.push_from-full.ensures.work_value_2));
+          (c.set_looked.ensures.work_value_3 ∙ ap (λ (row : List ℕ). set row (given.i - 1) at.position) (looked_kept given.n given.work.now work_then c.push_from-full.ensures.work_value_2));
       same_lists = lists_on (lists_kept given.n given.work.now work_then c.push_from-full.ensures.work_value_2) c.set_looked.ensures.same_lists;
     }
 
-pub returns-in-End : goal.returns-in-End
-returns-in-End c =
+pub returns-in-None : goal.returns-in-None
+returns-in-None c =
     let table : Table = table_of c.args.n c.args.s c.args.t c.args.tails.now c.args.heads.now c.args.capacities.now in
     let state : State = state_in c.args.n c.args.flow.now c.args.work.now in
     let spot : SpotIs table state c.args.i (list table c.args.i) c.search_list.result = c.search_list.ensures c.args.s c.args.t c.requires.arc_rows.1 c.requires.arc_rows.2 c.requires.fact.1 in
@@ -92,9 +45,9 @@ returns-in-End c =
     let work_then = c.set_label.new.work in record {
       fact_2 = stepped_relabel table given.delta state given.counts given.i (looked_part given.n given.work.now) c.requires.arc_rows.0.ends.few_nodes c.requires.in_phase.0.fits c.requires.in_phase.1
           c.requires.fact.0 c.requires.fact.1 _ _ _ c.label_from_list-found.result
-          (subst (SpotIs table state given.i (list table given.i)) c.in-End.is spot)
+          (subst (SpotIs table state given.i (list table given.i)) c.in-None.is spot)
           (c.label_from_list-found.ensures given.s given.t c.requires.arc_rows.1 c.requires.arc_rows.2)
-          (same_state refl (c.set_looked-in-End.ensures.work_value ∙ c.set_label.ensures.work_value) (c.set_looked-in-End.ensures.work_value_2 ∙ c.set_label.ensures.work_value_2)) c.count_relabel.ensures
-          (c.set_looked-in-End.ensures.work_value_3 ∙ ap (λ (row : List ℕ). set row (given.i - 1) c.label_from_list-found.result.at) (looked_kept given.n given.work.now work_then c.set_label.ensures.work_value_3));
-      same_lists = lists_on (lists_kept given.n given.work.now work_then c.set_label.ensures.work_value_3) c.set_looked-in-End.ensures.same_lists;
+          (same_state refl (c.set_looked-in-None.ensures.work_value ∙ c.set_label.ensures.work_value) (c.set_looked-in-None.ensures.work_value_2 ∙ c.set_label.ensures.work_value_2)) c.count_relabel.ensures
+          (c.set_looked-in-None.ensures.work_value_3 ∙ ap (λ (row : List ℕ). set row (given.i - 1) c.label_from_list-found.result.at) (looked_kept given.n given.work.now work_then c.set_label.ensures.work_value_3));
+      same_lists = lists_on (lists_kept given.n given.work.now work_then c.set_label.ensures.work_value_3) c.set_looked-in-None.ensures.same_lists;
     }
