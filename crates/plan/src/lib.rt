@@ -15,15 +15,15 @@ ghost use Rattle.amounts.specs.Lines.{amount_in, amounts_of, judged};
 ghost use Rattle.sharing.specs.Full.{Full};
 ghost use Rattle.sharing.specs.Test.{out_sum, into_sum, SumsFit, CutFits};
 ghost use Rattle.pairs.specs.Places.{Places, Takes, Zeros};
-ghost use Rattle.plan.specs.Checking.{checked_with, lines_verdict, Flags, Answers, Checks};
+ghost use Rattle.plan.specs.Checking.{checked_with, lines_verdict, Answers, Checks};
 ghost use Rattle.plan.specs.Rows.{Adds, TookAll, IsBelow, AtMost, Rows, HoldsAt, IsEven, IsKept, Decides};
 
-use amounts::{Judged, Kind};
+use amounts::Kind;
 use table::{Name, Verdict};
 
 // What checking returns: a refusal's number and place, or 0 with 1 where the plan is full, else 0.
 #[repr(C)]
-#[derive(Clone, Copy)]
+#[derive(Clone, Copy, Debug, PartialEq, Eq)]
 pub struct Checked {
     pub refusal: u32,
     pub place: u32,
@@ -39,7 +39,7 @@ fn add_at(n: u32, i: u32, x: u32, row: &mut [u64])
 {
     if pairs::is_node(n, i) {
         let at = (i - 1) as usize;
-        row[at] = row[at] + rows::wide(x);
+        row[at] += u64::from(x);
     }
 }
 
@@ -67,10 +67,7 @@ fn take_kind(
     };
     add_at(n, x.tail, x.flow, out);
     add_at(n, x.head, x.flow, into);
-    if !fits {
-        return false;
-    }
-    pairs::take_pair(n, heads, first, next, x, room)
+    fits && pairs::take_pair(n, heads, first, next, x, room)
 }
 
 // Takes the amounts of all lines into the three rows, of which those by node hold zeros, and says whether they fitted.
@@ -130,13 +127,7 @@ fn take_text(
 fn is_even(i: u32, s: u32, t: u32, into: u64, out: u64) -> bool
     ensures { IsEven i s t into out result }
 {
-    if i == s {
-        return true;
-    }
-    if i == t {
-        return true;
-    }
-    into == out
+    i == s || i == t || into == out
 }
 
 // Does what goes into each inner node go out of it?
@@ -144,12 +135,11 @@ fn is_kept(n: u32, s: u32, t: u32, out: &[u64], into: &[u64]) -> bool
     requires { (n ≤ 512) × (length out.now ≡ 512) × (length into.now ≡ 512) }
     ensures { IsKept n s t out.now into.now result }
 {
-    let mut at: usize = 0;
-    while at < (n as usize) {
-        if !is_even(at as u32 + 1, s, t, into[at], out[at]) {
+    for i in 1..=n {
+        let at = i as usize - 1;
+        if !is_even(i, s, t, into[at], out[at]) {
             return false;
         }
-        at += 1;
     }
     true
 }
@@ -169,13 +159,11 @@ fn crossing(side: &[u8], tail: u32, head: u32, capacity: u32) -> u64
     requires { Node (length side.now) tail × Node (length side.now) head }
     ensures { result ≡ only (marked side.now tail && not (marked side.now head)) capacity }
 {
-    if !is_marked(side, tail) {
-        return 0;
+    if is_marked(side, tail) && !is_marked(side, head) {
+        u64::from(capacity)
+    } else {
+        0
     }
-    if is_marked(side, head) {
-        return 0;
-    }
-    rows::wide(capacity)
 }
 
 // The capacity of the marked cut.
@@ -192,10 +180,8 @@ fn cut_capacity(
     ensures { result ≡ leaving (network_of (lent_table n s t tails heads capacities)) (marked side.now) (at_place capacities.now) }
 {
     let mut total: u64 = 0;
-    let mut place: usize = 0;
-    while place < capacities.len() {
+    for place in 0..capacities.len() {
         total += crossing(side, tails[place], heads[place], capacities[place]);
-        place += 1;
     }
     total
 }
@@ -204,10 +190,7 @@ fn cut_capacity(
 fn is_net(out: u64, into: u64, value: u32) -> bool
     ensures { Decides result (out ≡ into + value) }
 {
-    if out < into {
-        return false;
-    }
-    out - into == rows::wide(value)
+    into <= out && out - into == u64::from(value)
 }
 
 // Do the sums of the text fit the table, and their net out of the source the value?
@@ -229,11 +212,8 @@ fn sums_fit(
     if !take_text(n, tails, heads, capacities, text, &mut out, &mut into) {
         return false;
     }
-    if !is_kept(n, s, t, &out, &into) {
-        return false;
-    }
     let at = (s - 1) as usize;
-    is_net(out[at], into[at], value)
+    is_kept(n, s, t, &out, &into) && is_net(out[at], into[at], value)
 }
 
 // Is the source marked and the sink not, and has the marked cut this capacity?
@@ -250,17 +230,13 @@ fn cut_fits(
     requires { Accepted (given_table n s t tails heads capacities) × (n ≤ length side.now) }
     ensures { Decides result (CutFits (lent_table n s t tails heads capacities) value side.now) }
 {
-    if !is_marked(side, s) {
-        return false;
-    }
-    if is_marked(side, t) {
-        return false;
-    }
-    cut_capacity(n, s, t, tails, heads, capacities, side) == rows::wide(value)
+    is_marked(side, s)
+        && !is_marked(side, t)
+        && cut_capacity(n, s, t, tails, heads, capacities, side) == u64::from(value)
 }
 
-// 1 where a plan is full, else 0.
-fn full_flag(
+// Is a plan full?
+fn is_full(
     n: u32,
     s: u32,
     t: u32,
@@ -270,17 +246,12 @@ fn full_flag(
     text: &[u8],
     value: u32,
     side: &[u8],
-) -> u32
+) -> bool
     requires { Accepted (given_table n s t tails heads capacities) × (n ≤ length side.now) × (length text.now ≤ 1048576) }
-    ensures { Flags result (Full (lent_table n s t tails heads capacities) value (amounts_of (lines text.now)) side.now) }
+    ensures { Decides result (Full (lent_table n s t tails heads capacities) value (amounts_of (lines text.now)) side.now) }
 {
-    if !sums_fit(n, s, t, tails, heads, capacities, text, value) {
-        return 0;
-    }
-    if !cut_fits(n, s, t, tails, heads, capacities, value, side) {
-        return 0;
-    }
-    1
+    sums_fit(n, s, t, tails, heads, capacities, text, value)
+        && cut_fits(n, s, t, tails, heads, capacities, value, side)
 }
 
 // ---- the call
@@ -291,7 +262,7 @@ fn not_checked(name: Name, place: u32) -> Checked
 {
     Checked {
         refusal: table::number(name),
-        place: place,
+        place,
         full: 0,
     }
 }
@@ -313,11 +284,11 @@ fn check_text(
         Answers (lines_verdict said) said table text.now side.now result }
 {
     match amounts::judge_lines(text) {
-        Judged::Fault(place) => not_checked(Name::Solution, place),
-        Judged::Says(value) => Checked {
+        Err(fault) => not_checked(Name::Solution, fault.line),
+        Ok(value) => Checked {
             refusal: 0,
             place: 0,
-            full: full_flag(n, s, t, tails, heads, capacities, text, value, side),
+            full: u32::from(is_full(n, s, t, tails, heads, capacities, text, value, side)),
         },
     }
 }

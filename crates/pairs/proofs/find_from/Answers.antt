@@ -10,7 +10,7 @@ loop-at-init c = (c.requires.1, λ found leads. leads)
 
 pub returns-then-heads-k : goal.returns-then-heads-k
 returns-then-heads-k c =
-    λ found leads. leads_here (c.loop-at.invariant.1 found leads) (c.loop-at.at - 1) (omega arith) c.if-heads-k.true
+    λ found leads. omega (arith, leads_here (c.loop-at.invariant.1 found leads) (c.loop-at.at - 1) (omega arith) c.if-heads-k.true)
 
 pub loop-at-smaller : goal.loop-at-smaller
 loop-at-smaller c =

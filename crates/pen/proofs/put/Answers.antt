@@ -4,5 +4,5 @@ use mathlib.Core.Path.{sym}
 use lib.Seq.{set_out}
 use Rattle.pen.proofs.put.Goals as goal
 
-pub returns : goal.returns
-returns c = record { holds = sym (set_out c.args.out.now c.args.at c.args.byte c.if-at-out.false); place = omega arith }
+pub returns-else-at-out : goal.returns-else-at-out
+returns-else-at-out c = record { holds = sym (set_out c.args.out.now c.args.at c.args.byte c.if-at-out.false); place = omega arith }

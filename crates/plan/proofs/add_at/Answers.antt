@@ -20,7 +20,7 @@ bounds-row-at c =
 pub overflow_add-row : goal.overflow_add-row
 overflow_add-row c =
     let node : Node c.args.n c.args.i = node_is _ _ (sym c.is_node.ensures ∙ c.if-is_node.true) in
-    omega (arith, node, c.requires.2 (c.args.i - 1), c.wide.ensures.1)
+    omega (arith, node, c.requires.2 (c.args.i - 1), c.from.ensures, c.ranges.x.fits)
 
 pub bounds-row-at-then-is_node : goal.bounds-row-at-then-is_node
 bounds-row-at-then-is_node c =
@@ -31,7 +31,7 @@ pub returns-then-is_node : goal.returns-then-is_node
 returns-then-is_node c =
     let node : Node c.args.n c.args.i = node_is _ _ (sym c.is_node.ensures ∙ c.if-is_node.true) in
     let a = c.args in
-    adds_one a.n a.row.now a.i a.x c.wide.result node (omega (arith, node)) (omega (arith, c.wide.ensures)) c.wide.ensures.0
+    adds_one a.n a.row.now a.i a.x c.from.result node (omega (arith, node)) (omega (arith, c.from.ensures)) c.from.ensures
 
 pub returns-else-is_node : goal.returns-else-is_node
 returns-else-is_node c = let a = c.args in

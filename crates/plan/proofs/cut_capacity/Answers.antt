@@ -14,7 +14,7 @@ use Rattle.plan.proofs.cut_capacity.Goals as goal
 
 pub loop-place-init : goal.loop-place-init
 unfolding sum
-loop-place-init c = (omega arith, omega arith, refl)
+loop-place-init c = (omega arith, refl)
 
 pub crossing-total-requires : goal.crossing-total-requires
 crossing-total-requires c =
@@ -32,9 +32,8 @@ pub loop-place-preserved : goal.loop-place-preserved
 unfolding sum
 loop-place-preserved c =
     let a = c.args in (
-      omega arith,
       omega (arith, c.crossing-total.ensures, only_le (marked a.side.now (at_place a.tails.now c.loop-place.place) && not (marked a.side.now (at_place a.heads.now c.loop-place.place))) (at_place a.capacities.now c.loop-place.place), c.requires.0.small c.loop-place.place c.loop-place-test.true),
-      rw add-one (omega (arith, c.loop-place.invariant.2, c.crossing-total.ensures)),
+      rw add-one (omega (arith, c.loop-place.invariant.1, c.crossing-total.ensures)),
     )
 
 pub returns : goal.returns
@@ -42,4 +41,4 @@ unfolding leaving
 returns c =
     let a = c.args in
     let all : c.loop-place.place ≡ length a.capacities.now = omega arith in
-    c.loop-place.invariant.2 ∙ ap (λ (k : ℕ). sum k (λ j. only (marked a.side.now (at_place a.tails.now j) && not (marked a.side.now (at_place a.heads.now j))) (at_place a.capacities.now j))) all
+    c.loop-place.invariant.1 ∙ ap (λ (k : ℕ). sum k (λ j. only (marked a.side.now (at_place a.tails.now j) && not (marked a.side.now (at_place a.heads.now j))) (at_place a.capacities.now j))) all

@@ -18,11 +18,11 @@ returns-then-not-take_text c =
     let a = c.args in
     sums_above table a.value (amounts_of (lines a.text.now)) c.take_text.new.out c.take_text.new.into c.take_text.ensures.outs c.take_text.ensures.intos c.take_text.result c.take_text.ensures.pairs c.if-not-take_text.true
 
-pub returns-then-not-is_kept : goal.returns-then-not-is_kept
-returns-then-not-is_kept c =
+pub returns-else-is_kept : goal.returns-else-is_kept
+returns-else-is_kept c =
     let table : Table = let a = c.args in table_of a.n a.s a.t a.tails.now a.heads.now a.capacities.now in
     let a = c.args in
-    sums_uneven table a.value (amounts_of (lines a.text.now)) c.take_text.new.out c.take_text.new.into c.take_text.ensures.outs c.take_text.ensures.intos c.is_kept.result c.is_kept.ensures c.if-not-is_kept.true
+    sums_uneven table a.value (amounts_of (lines a.text.now)) c.take_text.new.out c.take_text.new.into c.take_text.ensures.outs c.take_text.ensures.intos c.is_kept.result c.is_kept.ensures c.if-is_kept.false
 
 pub overflow_cast-at : goal.overflow_cast-at
 overflow_cast-at c = omega (arith, c.requires.0.source, c.requires.0.rows.ends.few_nodes)
@@ -39,8 +39,8 @@ offset_bounds-into-at c = omega (arith, c.requires.0.source, c.requires.0.rows.e
 pub bounds-into-at : goal.bounds-into-at
 bounds-into-at c = omega (arith, c.requires.0.source, c.requires.0.rows.ends.few_nodes)
 
-pub returns : goal.returns
-returns c =
+pub returns-then-is_kept : goal.returns-then-is_kept
+returns-then-is_kept c =
     let table : Table = let a = c.args in table_of a.n a.s a.t a.tails.now a.heads.now a.capacities.now in
     let a = c.args in
-    sums_decide table a.value (amounts_of (lines a.text.now)) c.take_text.new.out c.take_text.new.into c.take_text.ensures.outs c.take_text.ensures.intos c.requires.0.source c.take_text.result c.take_text.ensures.pairs c.if-not-take_text.false c.is_kept.result c.is_kept.ensures c.if-not-is_kept.false c.is_net.result c.is_net.ensures
+    sums_decide table a.value (amounts_of (lines a.text.now)) c.take_text.new.out c.take_text.new.into c.take_text.ensures.outs c.take_text.ensures.intos c.requires.0.source c.take_text.result c.take_text.ensures.pairs c.if-not-take_text.false c.is_kept.result c.is_kept.ensures c.if-is_kept.true c.is_net.result c.is_net.ensures

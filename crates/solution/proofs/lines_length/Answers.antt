@@ -10,12 +10,11 @@ overflow_add-length c = omega (arith, c.line_length-length.ensures.1)
 pub loop-place-preserved : goal.loop-place-preserved
 loop-place-preserved c =
     let a = c.args in (
-      omega arith,
       omega (arith, c.line_length-length.ensures.1),
-      omega (arith, c.loop-place.invariant.2, lines_count a.tails.now a.heads.now a.flow.now c.loop-place.place (omega arith) (omega arith) (omega arith), c.line_length-length.ensures.0),
+      omega (arith, c.loop-place.invariant.1, lines_count a.tails.now a.heads.now a.flow.now c.loop-place.place (omega arith) (omega arith) (omega arith), c.line_length-length.ensures.0),
     )
 
 pub returns : goal.returns
 returns c =
     let a = c.args in
-    omega (arith, c.loop-place.invariant.2, ap length (lines_end a.tails.now a.heads.now a.flow.now c.loop-place.place c.loop-place-test.false))
+    omega (arith, c.loop-place.invariant.1, ap length (lines_end a.tails.now a.heads.now a.flow.now c.loop-place.place c.loop-place-test.false))

@@ -13,11 +13,11 @@ pub store-requires : goal.store-requires
 store-requires c =
     flows_fit (length c.args.tails.now) _ c.args.flow.now c.requires.1.room
 
-pub returns-in-Stop : goal.returns-in-Stop
-returns-in-Stop c = let a = c.args in
-    found_stop _ _ _ _ c.read_flows.ensures a.value a.flow.now c.in-Stop.line c.not_read.result c.in-Stop.is c.not_read.ensures
+pub returns-in-Err : goal.returns-in-Err
+returns-in-Err c = let a = c.args in
+    found_stop _ _ _ _ c.read_flows.ensures a.value a.flow.now c.in-Err.fault c.not_read.result c.in-Err.is c.not_read.ensures
 
-pub returns-in-All : goal.returns-in-All
-returns-in-All c =
+pub returns-in-Ok : goal.returns-in-Ok
+returns-in-Ok c =
     let a = c.args in
-    found_all _ _ _ _ c.read_flows.ensures a.value a.flow.now c.wide.result _ c.in-All.is (omega arith) (omega arith) c.wide.ensures.0 c.store.ensures
+    found_all _ _ _ _ c.read_flows.ensures a.value a.flow.now c.from.result _ c.in-Ok.is (omega arith) (omega arith) c.from.ensures c.store.ensures

@@ -18,4 +18,4 @@ returns-in_default c = let a = c.args in
 
 pub returns : goal.returns
 returns c = let a = c.args in
-    c.read_row.ensures ∙ text_value a.tails.now a.heads.now a.capacities.now a.text.now a.flow.now c.find-end.result c.find-end.ensures c.in-Value.value c.if-text-end.false (sym c.number_behind-said.ensures ∙ c.in-Value.is)
+    c.read_row.ensures ∙ text_value a.tails.now a.heads.now a.capacities.now a.text.now a.flow.now c.find-end.result c.find-end.ensures c.in-Some.value c.if-text-end.false (sym c.number_behind-said.ensures ∙ c.in-Some.is)
