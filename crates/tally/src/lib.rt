@@ -7,7 +7,7 @@ ghost use Rattle.tally.specs.Sums.{is_lower, counted, tallied};
 use solver::Answer;
 
 // The sums so far: the tables solved, the total value, the first solved day of least value, and that value.
-#[derive(Clone, Copy)]
+#[derive(Clone, Copy, Debug, PartialEq, Eq)]
 pub struct Tally {
     pub solved: u32,
     pub total: u64,
@@ -19,10 +19,7 @@ pub struct Tally {
 fn is_lower(tally: Tally, value: u64) -> bool
     ensures { result ≡ is_lower tally value }
 {
-    if tally.day == 0 {
-        return true;
-    }
-    value < tally.least
+    tally.day == 0 || value < tally.least
 }
 
 // One solved day more.
@@ -30,21 +27,19 @@ fn count_solved(tally: Tally, day: u32, value: u64) -> Tally
     requires { (tally.solved < 31) × (tally.total + value < 2 ^ 64) }
     ensures { result ≡ counted tally day value }
 {
-    let solved = tally.solved + 1;
-    let total = tally.total + value;
+    let counted = Tally {
+        solved: tally.solved + 1,
+        total: tally.total + value,
+        ..tally
+    };
     if is_lower(tally, value) {
-        return Tally {
-            solved: solved,
-            total: total,
-            day: day,
+        Tally {
+            day,
             least: value,
-        };
-    }
-    Tally {
-        solved: solved,
-        total: total,
-        day: tally.day,
-        least: tally.least,
+            ..counted
+        }
+    } else {
+        counted
     }
 }
 
@@ -54,7 +49,8 @@ pub fn count_day(tally: Tally, day: u32, a: Answer) -> Tally
     ensures { result ≡ tallied tally day a }
 {
     if a.refusal == 0 {
-        return count_solved(tally, day, a.value);
+        count_solved(tally, day, a.value)
+    } else {
+        tally
     }
-    tally
 }
