@@ -23,11 +23,6 @@ returns-in_err-said c =
     let failed = err_from_is_err_and c.from_residual.result c.from_residual.ensures.1 in
     rw (failed.1, failed.2) (sym (c.loop-start.invariant.2 ∙ judge_stop a.text.now c.loop-start.start c.find-end.result c.loop-start.said c.loop-start.line c.loop-start-test.true c.find-end.ensures c.line_kind.ensures c.take_line.ensures c.in_err-said.was))
 
-pub overflow_add-start : goal.overflow_add-start
-overflow_add-start c =
-    let within : c.find-end.result ≤ length c.args.text.now = omega (arith, c.find-end.ensures, run_within (λ b. not (eqb b LF)) c.args.text.now c.loop-start.start (omega arith)) in
-    omega (arith, within)
-
 pub loop-start-preserved : goal.loop-start-preserved
 loop-start-preserved c =
     let within : c.find-end.result ≤ length c.args.text.now = omega (arith, c.find-end.ensures, run_within (λ b. not (eqb b LF)) c.args.text.now c.loop-start.start (omega arith)) in

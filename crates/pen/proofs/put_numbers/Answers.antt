@@ -1,22 +1,13 @@
 -- `put_numbers` meets its contract: all but the numbers from here on are written.
 use Rattle.pen.proofs.Spacing.{spaced_here, spaced_end}
-use Rattle.pen.proofs.Writing.{wrote_within, wrote_length, partly_none, partly_more, partly_all}
+use Rattle.pen.proofs.Writing.{partly_more, partly_all}
 use native.Mathlib.Omega.{arith}
 use Rattle.pen.proofs.put_numbers.Goals as goal
-
-pub loop-number-init : goal.loop-number-init
-loop-number-init c = partly_none c.requires
-
-pub put_further-place-requires : goal.put_further-place-requires
-put_further-place-requires c = wrote_within c.loop-number.invariant.wrote
 
 pub loop-number-preserved : goal.loop-number-preserved
 loop-number-preserved c =
     let numbers = c.args.numbers.now in
     partly_more c.loop-number.invariant c.put_further-place.ensures (rw c.from.ensures (spaced_here c.loop-number.some numbers c.loop-number.number-index (omega arith)))
-
-pub shape_of-out : goal.shape_of-out
-shape_of-out c = wrote_length c.loop-number.invariant.wrote
 
 pub returns : goal.returns
 returns c =

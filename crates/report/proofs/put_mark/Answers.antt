@@ -7,5 +7,5 @@ pub returns-then-mark-eq1 : goal.returns-then-mark-eq1
 returns-then-mark-eq1 c =
     rw (eq-eqb c.args.mark 1 c.if-mark-eq1.true) c.put_further.ensures
 
-pub returns : goal.returns
-returns c = rw (ne_eqb c.args.mark 1 c.if-mark-eq1.false) (wrote_nothing c.requires)
+pub returns-else-mark-eq1 : goal.returns-else-mark-eq1
+returns-else-mark-eq1 c = rw (ne_eqb c.args.mark 1 c.if-mark-eq1.false) (wrote_nothing c.requires)

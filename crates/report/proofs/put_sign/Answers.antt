@@ -5,5 +5,5 @@ use Rattle.report.proofs.put_sign.Goals as goal
 pub returns-then-below : goal.returns-then-below
 returns-then-below c = rw c.if-below.true c.put.ensures
 
-pub returns : goal.returns
-returns c = rw c.if-below.false (wrote_nothing c.requires)
+pub returns-else-below : goal.returns-else-below
+returns-else-below c = rw c.if-below.false (wrote_nothing c.requires)

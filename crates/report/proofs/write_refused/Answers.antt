@@ -6,4 +6,4 @@ use Rattle.report.proofs.write_refused.Goals as goal
 pub returns : goal.returns
 unfolding refused_text
 returns c =
-    rw (← c.wide.ensures.0) (wrote_then c.put_bytes-text.ensures (wrote_then c.put_name-end.ensures c.put_line.ensures))
+    rw (← c.from.ensures) (wrote_then c.put_bytes-text.ensures (wrote_then c.put_name-end.ensures c.put_line.ensures))

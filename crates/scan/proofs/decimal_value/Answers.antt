@@ -1,22 +1,11 @@
 -- `decimal_value` meets its contract: the digits from there on, behind the value so far, say what all say; k digits stay below 10 to the k.
 use mathlib.Core.Path.{refl, sym, ◌∙◌}
 use native.Mathlib.Omega.{arith}
-use Rattle.scan.proofs.Walk.{digits_first, decimal_more, decimal_end, power_more, power_fits}
+use Rattle.scan.proofs.Walk.{digits_first, decimal_more, decimal_end, power_more}
 use Rattle.scan.proofs.decimal_value.Goals as goal
-
-pub loop-byte-init : goal.loop-byte-init
-loop-byte-init c = (omega arith, refl, c.requires.1)
-
-pub overflow_mul-value : goal.overflow_mul-value
-overflow_mul-value c = omega (arith, power_fits c.loop-byte.byte-index c.loop-byte.value c.loop-byte.invariant.0 (omega arith))
 
 pub overflow_sub-byte : goal.overflow_sub-byte
 overflow_sub-byte c = (digits_first c.args.field.now c.loop-byte.byte-index (omega arith) c.loop-byte.invariant.2).0
-
-pub overflow_add-value : goal.overflow_add-value
-overflow_add-value c =
-    let d = digits_first c.args.field.now c.loop-byte.byte-index (omega arith) c.loop-byte.invariant.2 in
-    omega (arith, c.from.ensures, d, power_fits c.loop-byte.byte-index c.loop-byte.value c.loop-byte.invariant.0 (omega arith))
 
 pub loop-byte-preserved : goal.loop-byte-preserved
 loop-byte-preserved c =

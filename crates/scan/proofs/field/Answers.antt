@@ -1,8 +1,7 @@
 -- `field` meets its contract: the field behind `passed` of them stands from `start` to `stop`.
-use mathlib.Core.Path.{refl, ap, ◌∙◌}
+use mathlib.Core.Path.{refl}
 use native.Mathlib.Omega.{arith}
 use lib.ListN.{length}
-use Rattle.scan.specs.Fields.{field_at}
 use Rattle.scan.proofs.Fielding.{passed_first, first_here, later_none, passed_next, next_here}
 use Rattle.scan.proofs.field.Goals as goal
 
@@ -25,11 +24,3 @@ loop-passed-preserved c =
       goes.0,
       next_here w c.run_end-start.result c.run_end-start.ensures c.run_end-stop-in-loop-passed.result c.run_end-stop-in-loop-passed.ensures c.if-end-start.false,
     )
-
-pub slice_bounds-result-end-2 : goal.slice_bounds-result-end-2
-slice_bounds-result-end-2 c = c.loop-passed.invariant.2.within
-
-pub returns : goal.returns
-returns c =
-    let a = c.args in
-    c.loop-passed.invariant.3 ∙ ap (field_at a.line.now) (omega arith)

@@ -1,14 +1,11 @@
 -- `find` meets its contract: what stands before the separator from `from` on is what was passed and what stands before it from `at` on.
-use mathlib.Core.Path.{◌≡◌, refl, sym, ap, ◌∙◌}
+use mathlib.Core.Path.{◌≡◌, sym, ap, ◌∙◌}
 use mathlib.Core.Bool.{not}
 use native.Mathlib.Omega.{arith}
 use lib.Dec.{eqb}
 use borrow.Author.Tests.{eq-eqb, ne_eqb}
 use Rattle.scan.proofs.Walk.{run_stop, run_more, run_end}
 use Rattle.scan.proofs.find.Goals as goal
-
-pub loop-at-init : goal.loop-at-init
-loop-at-init c = (omega arith, refl)
 
 pub returns-then-bytes-at : goal.returns-then-bytes-at
 returns-then-bytes-at c =

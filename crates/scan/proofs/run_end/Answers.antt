@@ -1,14 +1,11 @@
 -- `run_end` meets its contract: the bytes at the front from `from` on are those passed and those from `at` on.
-use mathlib.Core.Path.{◌≡◌, refl, sym, ◌∙◌}
+use mathlib.Core.Path.{◌≡◌, sym, ◌∙◌}
 use mathlib.Core.Bool.{true, false, not, beq}
 use native.Mathlib.Omega.{arith}
 use borrow.Author.Tests.{not-true, not-false}
 use Rattle.scan.specs.Parts.{is_separator}
 use Rattle.scan.proofs.Walk.{run_stop, run_more, run_end}
 use Rattle.scan.proofs.run_end.Goals as goal
-
-pub loop-at-init : goal.loop-at-init
-loop-at-init c = (omega arith, refl)
 
 pub returns-then-is_separator-are : goal.returns-then-is_separator-are
 returns-then-is_separator-are c =
