@@ -17,16 +17,6 @@ pub loop-place-init : goal.loop-place-init
 unfolding sum
 loop-place-init c = (refl, c.requires.arc_rows.2)
 
-pub bounds-tails-place : goal.bounds-tails-place
-bounds-tails-place c = omega (arith, c.requires.arc_rows.0.capacities_long)
-
-pub bounds-heads-place : goal.bounds-heads-place
-bounds-heads-place c = omega (arith, c.requires.arc_rows.0.capacities_long, c.requires.arc_rows.0.ends.heads_long)
-
-pub find_pair-requires : goal.find_pair-requires
-find_pair-requires c =
-    (first_to (at_place c.args.tails.now) (at_place c.args.heads.now) (length c.args.tails.now), c.requires.places)
-
 pub offset_bounds-room-at : goal.offset_bounds-room-at
 offset_bounds-room-at c =
     let here : ℕ = c.loop-place.place in
@@ -76,9 +66,6 @@ loop-place-preserved c =
           )
       | in_default w ↦ absurd (omega (arith, some, ap counted w.in_default.is))
     ]
-
-pub shape_of-room : goal.shape_of-room
-shape_of-room c = c.loop-place.invariant.0
 
 pub returns : goal.returns
 returns c =

@@ -1,5 +1,4 @@
 -- `add_at` meets its contract: x is added at a node, and nothing elsewhere.
-use Prim.Native.Nat.{◌-◌}
 use mathlib.Core.Path.{sym, ◌∙◌}
 use native.Mathlib.Omega.{arith}
 use Rattle.rows.specs.Row.{Node}
@@ -16,11 +15,6 @@ pub bounds-row-at : goal.bounds-row-at
 bounds-row-at c =
     let node : Node c.args.n c.args.i = node_is _ _ (sym c.is_node.ensures ∙ c.if-is_node.true) in
     omega (arith, node)
-
-pub overflow_add-row : goal.overflow_add-row
-overflow_add-row c =
-    let node : Node c.args.n c.args.i = node_is _ _ (sym c.is_node.ensures ∙ c.if-is_node.true) in
-    omega (arith, node, c.requires.2 (c.args.i - 1), c.from.ensures, c.ranges.x.fits)
 
 pub bounds-row-at-then-is_node : goal.bounds-row-at-then-is_node
 bounds-row-at-then-is_node c =

@@ -16,18 +16,6 @@ pub loop-place-init : goal.loop-place-init
 unfolding sum
 loop-place-init c = (omega arith, refl)
 
-pub crossing-total-requires : goal.crossing-total-requires
-crossing-total-requires c =
-    let a = c.args in
-    let v = c.requires.0.ends.tail_node c.loop-place.place (omega (arith, c.requires.0.capacities_long)) in
-    let w = c.requires.0.ends.head_node c.loop-place.place (omega (arith, c.requires.0.capacities_long)) in
-    ((v.0, omega arith), (w.0, omega arith))
-
-pub overflow_add-total : goal.overflow_add-total
-overflow_add-total c =
-    let a = c.args in
-    omega (arith, c.crossing-total.ensures, only_le (marked a.side.now (at_place a.tails.now c.loop-place.place) && not (marked a.side.now (at_place a.heads.now c.loop-place.place))) (at_place a.capacities.now c.loop-place.place), c.requires.0.small c.loop-place.place c.loop-place-test.true, c.requires.0.capacities_long, c.requires.0.ends.few_arcs)
-
 pub loop-place-preserved : goal.loop-place-preserved
 unfolding sum
 loop-place-preserved c =

@@ -12,10 +12,6 @@ returns-else-capacities-flow c =
     let a = c.args in
     lt-leb _ _ c.if-capacities-flow.false ∙ flow_short (table_of a.n a.s a.t a.tails.now a.heads.now a.capacities.now) a.value a.flow.now a.text c.if-capacities-flow.false
 
-pub lines_length-requires : goal.lines_length-requires
-lines_length-requires c =
-    record { few = c.requires.0.few; heads_long = c.requires.0.heads_long; room = omega (arith, c.requires.1, c.if-capacities-flow.true) }
-
 pub returns-then-capacities-flow : goal.returns-then-capacities-flow
 returns-then-capacities-flow c =
     let a = c.args in

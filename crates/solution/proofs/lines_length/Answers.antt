@@ -4,9 +4,6 @@ use native.Mathlib.Omega.{arith}
 use Rattle.wording.proofs.Lengths.{lines_count, lines_end}
 use Rattle.solution.proofs.lines_length.Goals as goal
 
-pub overflow_add-length : goal.overflow_add-length
-overflow_add-length c = omega (arith, c.line_length-length.ensures.1)
-
 pub loop-place-preserved : goal.loop-place-preserved
 loop-place-preserved c =
     let a = c.args in (
