@@ -2,20 +2,11 @@
 use Prim.Native.Nat.{ℕ, ◌*◌, ◌-◌}
 use mathlib.Core.Path.{◌∙◌, ap, subst}
 use mathlib.Core.List.{List}
-use native.Mathlib.Omega.{arith}
 use lib.ListN.{drop}
-use Rattle.table.proofs.Numbers.{number_known}
 use Rattle.pen.specs.Wrote.{Wrote}
 use Rattle.report.specs.Words.{word_of}
 use Rattle.report.proofs.Naming.{line, name_word}
 use Rattle.report.proofs.put_name.Goals as goal
-
-pub overflow_sub-cell : goal.overflow_sub-cell
-overflow_sub-cell c = omega (arith, c.number.ensures, number_known c.args.name)
-
-pub word-requires : goal.word-requires
-word-requires c =
-    omega (arith, c.number.ensures, number_known c.args.name)
 
 pub returns : goal.returns
 returns c =
