@@ -1,8 +1,8 @@
 -- Laws of little-endian numbers in rows: as the library reads and writes them, and rows of numbers written one after the other.
-use Prim.Native.Nat.{ℕ, zero, suc, ◌+◌, ◌*◌, ◌/◌, ◌≤◌, ◌<◌}
+use Prim.Native.Nat.{ℕ, zero, suc, ◌+◌, ◌*◌, ◌/◌, ◌<◌}
 use mathlib.Core.Path.{◌≡◌, refl, sym, ap, ◌∙◌}
 use mathlib.Core.List.{List, [], ◌∷◌, ◌++◌, append_assoc, append-nil}
-use native.Mathlib.Nat.{mul-zero, mul-suc, mul-le-mul_left}
+use native.Mathlib.Nat.{mul-zero, mul-suc}
 use native.Mathlib.Numerals.{add-one}
 use native.Mathlib.Omega.{arith}
 use lib.ListN.{length, get_or, take, drop, length-append}
@@ -54,12 +54,6 @@ eight_written x =
     let g : x / 1099511627776 / 256 ≡ x / 281474976710656 = omega arith in
     let h : x / 281474976710656 / 256 ≡ x / 72057594037927936 = omega arith in
     rw (b, c, d, f, g, h) refl
-
--- ---- a column
-
--- A record is inside the rows of records.
-pub record_inside : (step k count : ℕ) → k < count → step * k + step ≤ step * count
-record_inside step k count l = rw (← mul-suc step k) (mul-le-mul_left step l)
 
 -- ---- rows of numbers
 

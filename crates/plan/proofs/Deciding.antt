@@ -14,7 +14,7 @@ use Rattle.sharing.specs.Full.{Full}
 use Rattle.plan.specs.Checking.{Flags}
 use Rattle.sharing.specs.Test.{out_sum, into_sum, SumsFit, CutFits}
 use Rattle.pairs.specs.Places.{Zeros}
-use Rattle.plan.specs.Rows.{IsBelow, HoldsAt, IsKept, Decides}
+use Rattle.plan.specs.Rows.{HoldsAt, IsKept, Decides}
 use Rattle.sharing.proofs.Sharing.{balanced_full, full_balanced}
 
 -- A new row is as long as it was made,
@@ -31,12 +31,7 @@ zeros_row (suc n) (suc k) = zeros_row n k
 
 -- The sums of a text's amounts, out of nodes and into them.
 module _ (t : Table) (value : ℕ) (amounts : List Amount) (out into : List ℕ) (outs : HoldsAt t.nodes out (out_sum amounts)) (intos : HoldsAt t.nodes into (into_sum amounts)) where
-  -- Some sum is above the capacities of its pair,
-  pub sums_above : (took : Bool) → IsBelow t.tails t.heads t.capacities amounts took → took ≡ false → SumsFit t value amounts → ⊥
-  sums_above true all e fit = true≢false e
-  sums_above false all e fit = let (a, b, less) = all in omega (arith, fit.below a b)
-
-  -- or more goes into some node than out of it or less,
+  -- More goes into some node than out of it, or less.
   pub sums_uneven : (kept : Bool) → IsKept t.nodes t.source t.sink out into kept → kept ≡ false → Decides kept (SumsFit t value amounts)
   sums_uneven true all e = absurd (true≢false e)
   sums_uneven false all e = λ fit.
@@ -46,23 +41,6 @@ module _ (t : Table) (value : ℕ) (amounts : List Amount) (out into : List ℕ)
       let o : get_or out k 0 ≡ out_sum amounts (k + 1) = ap (λ (j : ℕ). get_or out j 0) (sym here) ∙ outs (k + 1) node in
       let i : get_or into k 0 ≡ into_sum amounts (k + 1) = ap (λ (j : ℕ). get_or into j 0) (sym here) ∙ intos (k + 1) node in
       differ (i ∙ fit.kept (k + 1) (record { node = node; not_source = not_source; not_sink = not_sink }) ∙ sym o)
-
-  -- or all hangs on the net out of the source.
-  pub sums_decide : Node t.nodes t.source → (took : Bool) → IsBelow t.tails t.heads t.capacities amounts took → took ≡ true
-      → (kept : Bool) → IsKept t.nodes t.source t.sink out into kept → kept ≡ true
-      → (net : Bool) → Decides net (get_or out (t.source - 1) 0 ≡ get_or into (t.source - 1) 0 + value) → Decides net (SumsFit t value amounts)
-  sums_decide s false all e kept even f net n = absurd (true≢false (sym e))
-  sums_decide s true all e false even f net n = absurd (true≢false (sym f))
-  sums_decide s true all e true even f true n =
-      record {
-        below = all;
-        kept =
-            λ i v.
-            let here : i - 1 + 1 ≡ i = omega (arith, v.node) in
-            sym (intos i v.node) ∙ even (i - 1) (omega (arith, v.node)) (λ p. v.not_source (sym here ∙ p)) (λ p. v.not_sink (sym here ∙ p)) ∙ outs i v.node;
-        net = omega (arith, outs t.source s, intos t.source s);
-      }
-  sums_decide s true all e true even f false n = λ fit. n (omega (arith, outs t.source s, intos t.source s, fit.net))
 
 -- ---- the plan
 

@@ -1,7 +1,7 @@
 -- What reading returns and leaves, by each of its tests.
-use Prim.Native.Nat.{ℕ, zero, suc, ◌+◌, ◌-◌, ◌<◌, ◌≤◌}
+use Prim.Native.Nat.{ℕ, ◌+◌, ◌-◌, ◌<◌, ◌≤◌}
 use mathlib.Core.Path.{◌≡◌, refl, subst, ◌∙◌}
-use mathlib.Core.List.{List, [], ◌∷◌}
+use mathlib.Core.List.{List}
 use native.Mathlib.Omega.{arith}
 use lib.Dec.{leb}
 use lib.ListN.{length, take, drop}
@@ -27,16 +27,6 @@ use Rattle.solution.specs.declared.Fault.{Fault}
 use Rattle.solution.specs.declared.ReadBack.{ReadBack}
 use Rattle.solution.specs.Reading.{left, back_with, left_by, reading_as, reading}
 use Rattle.solution.specs.Rows.{Finds}
-
--- A row has at most m first numbers,
-take_most : (m : ℕ) (row : List ℕ) → length (take m row) ≤ m
-take_most zero row = omega arith
-take_most (suc m) [] = omega arith
-take_most (suc m) (x ∷ row) = omega (arith, take_most m row)
-
--- so they fit one that has room for m.
-pub flows_fit : (m : ℕ) (row flow : List ℕ) → m ≤ length flow → 0 + length (take m row) ≤ length flow
-flows_fit m row flow room = omega (arith, take_most m row)
 
 -- What was found of the lines, and what is returned and left of it.
 module _ (said : Said) (lines : Result ⊤ Fault) (m : ℕ) (row : List ℕ) (found : Finds said lines m row) (value : ℕ) (flow : List ℕ) where
