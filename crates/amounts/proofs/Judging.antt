@@ -8,7 +8,7 @@ use Rattle.std.specs.Prelude.{Option, Result, Ok, Err}
 use Rattle.scan.specs.Parts.{lines, LF, up_to}
 use Rattle.scan.proofs.Parting.{line_here, lines_end}
 use Rattle.amounts.specs.declared.Kind.{Kind}
-use Rattle.amounts.specs.declared.Fault.{Fault}
+use Rattle.scan.specs.declared.Fault.{Fault}
 use Rattle.amounts.specs.Lines.{kind_of, step_of, end_of, onwards, judge}
 
 -- A line stands at `at` and ends at `stop`; `kind` is what it is and `done` what it does.

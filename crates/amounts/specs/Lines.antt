@@ -7,7 +7,7 @@ use Rattle.scan.specs.Fields.{field_at, number_at, is_letter}
 use Rattle.amounts.specs.declared.Amount.{Amount}
 use Rattle.amounts.specs.declared.Kind.{Kind}
 use Rattle.amounts.specs.declared.Kind.TheVariants.{Comment, ValueLine, FlowLine, Other}
-use Rattle.amounts.specs.declared.Fault.{Fault}
+use Rattle.scan.specs.declared.Fault.{Fault}
 
 -- An `s` line, where VALUE is a number.
 unfoldable pub value_from : Option ℕ → Kind

@@ -4,6 +4,8 @@
 ghost use Rattle.std.specs.Prelude.{◌≡◌, ◌≤◌, length};
 ghost use Rattle.amounts.specs.Lines.{value_of, flow_of, kind_of, step_of, judged};
 
+use scan::Fault;
+
 // The tail, the head and the flow of an `f` line.
 #[derive(Clone, Copy, Debug, PartialEq, Eq)]
 pub struct Amount {
@@ -19,12 +21,6 @@ pub enum Kind {
     ValueLine(u32),
     FlowLine(Amount),
     Other,
-}
-
-// The line at fault, the first that does not stand in order.
-#[derive(Clone, Copy, Debug, PartialEq, Eq)]
-pub struct Fault {
-    pub line: u32,
 }
 
 // `s VALUE`, of a line whose first field is `s`.

@@ -30,7 +30,7 @@ use Rattle.scan.specs.Parts.{run as front_run}
 use Rattle.wording.specs.Text.{value_front, flow_lines, solution_text}
 use Rattle.wording.proofs.Speaking.{Fitting, ends_fit, text_short, text_front}
 use Rattle.intake.proofs.Verdicts.{text_fine}
-use Rattle.amounts.specs.declared.Fault.{Fault}
+use Rattle.scan.specs.declared.Fault.{Fault}
 use Rattle.amounts.specs.Lines.{step_of, onwards, judge, judged, amount_in, amounts_of}
 use Rattle.sharing.specs.Full.{is_pair, Full}
 use Rattle.plan.specs.declared.Checked.{Checked}

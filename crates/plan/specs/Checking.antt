@@ -9,7 +9,7 @@ use Rattle.table.specs.declared.Verdict.TheVariants.{Fine, Refused}
 use Rattle.minimums.specs.BoundedTable.{BoundedTable}
 use Rattle.scan.specs.Parts.{lines}
 use Rattle.intake.specs.Verdict.{text_verdict}
-use Rattle.amounts.specs.declared.Fault.{Fault}
+use Rattle.scan.specs.declared.Fault.{Fault}
 use Rattle.amounts.specs.Lines.{judged, amounts_of}
 use Rattle.sharing.specs.Full.{Full}
 use Rattle.plan.specs.declared.Checked.{Checked}

@@ -23,7 +23,7 @@ use Rattle.scan.specs.Parts.{LF, up_to}
 use Rattle.wording.specs.Text.{value_front, most_value}
 use Rattle.wording.specs.Lines.{Said, flows, nothing, flows_said, number_behind, first_number, words_of, words_from, text_words}
 use Rattle.wording.proofs.Saying.{number_here, number_open, rest_here}
-use Rattle.solution.specs.declared.Fault.{Fault}
+use Rattle.scan.specs.declared.Fault.{Fault}
 use Rattle.solution.specs.declared.ReadBack.{ReadBack}
 use Rattle.solution.specs.Reading.{left, back_with, left_by, reading_as, reading}
 use Rattle.solution.specs.Rows.{Finds}

@@ -1,7 +1,7 @@
 -- What the code asks of its rows, and what it finds in a text. Only contracts of private functions speak of it.
 use Rattle.std.specs.Prelude.{ℕ, ◌≤◌, ◌≡◌, List, length, take, Result, Ok, Err, ⊤}
 use Rattle.wording.specs.Lines.{Said, flows, nothing}
-use Rattle.solution.specs.declared.Fault.{Fault}
+use Rattle.scan.specs.declared.Fault.{Fault}
 
 -- At most 4,096 arcs, a head for each tail, and another row with a place for each.
 pub record ArcsWith (tails heads row : List ℕ) : Type 0 where

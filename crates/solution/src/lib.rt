@@ -15,6 +15,7 @@ ghost use Rattle.solution.specs.Reading.{back_with, left_by, reading};
 ghost use Rattle.solution.specs.Reading.{left as leftRead};
 ghost use Rattle.solution.specs.Rows.{ArcsWith, Finds};
 
+use scan::Fault;
 use table::{Name, Verdict};
 
 // What writing returns: a refusal's number and place, or 0 with how many bytes were filled.
@@ -33,12 +34,6 @@ pub struct ReadBack {
     pub refusal: u32,
     pub place: u32,
     pub value: u64,
-}
-
-// The line at fault: no solution text has such a line there.
-#[derive(Clone, Copy, Debug, PartialEq, Eq)]
-pub struct Fault {
-    pub line: u32,
 }
 
 // ---- writing
