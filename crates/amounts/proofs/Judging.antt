@@ -4,34 +4,32 @@ use mathlib.Core.Path.{◌≡◌, refl, ◌∙◌}
 use mathlib.Core.List.{List}
 use native.Mathlib.Numerals.{add-one}
 use lib.ListN.{length, take, drop}
+use Rattle.std.specs.Prelude.{Option, Result, Ok, Err}
 use Rattle.scan.specs.Parts.{lines, LF, up_to}
 use Rattle.scan.proofs.Parting.{line_here, lines_end}
 use Rattle.amounts.specs.declared.Kind.{Kind}
-use Rattle.scan.specs.declared.Number.{Number}
-use Rattle.amounts.specs.declared.Step.{Step}
-use Rattle.amounts.specs.declared.Step.TheVariants.{On, Stop}
-use Rattle.amounts.specs.declared.Judged.TheVariants.{Fault}
+use Rattle.scan.specs.declared.Fault.{Fault}
 use Rattle.amounts.specs.Lines.{kind_of, step_of, end_of, onwards, judge}
 
 -- A line stands at `at` and ends at `stop`; `kind` is what it is and `done` what it does.
-module _ (text : List ℕ) (at stop : ℕ) (said : Number) (place : ℕ) (h : at < length text) (e : stop ≡ at + up_to LF (drop at text))
-    {kind : Kind} (is : kind ≡ kind_of (take (stop - at) (drop at text))) {done : Step} (does : done ≡ step_of said kind) where
+module _ (text : List ℕ) (at stop : ℕ) (said : Option ℕ) (place : ℕ) (h : at < length text) (e : stop ≡ at + up_to LF (drop at text))
+    {kind : Kind} (is : kind ≡ kind_of (take (stop - at) (drop at text))) {done : Result (Option ℕ) Fault} (does : done ≡ step_of said kind place) where
   -- What it does decides, or the lines behind it.
   judge_here : judge (lines (drop at text)) said place ≡ onwards done place (judge (lines (drop (stop + 1) text)))
   unfolding judge
   judge_here = rw (line_here text at stop h e, does, is) refl
 
   -- It goes on.
-  pub judge_on : {q : Number} → done ≡ On q → judge (lines (drop at text)) said place ≡ judge (lines (drop (stop + 1) text)) q (place + 1)
+  pub judge_on : {q : Option ℕ} → done ≡ Ok q → judge (lines (drop at text)) said place ≡ judge (lines (drop (stop + 1) text)) q (place + 1)
   unfolding onwards
   judge_on f = judge_here ∙ rw (f, add-one place) refl
 
   -- It is the first line at fault.
-  pub judge_stop : done ≡ Stop → judge (lines (drop at text)) said place ≡ Fault place
+  pub judge_stop : {fault : Fault} → done ≡ Err fault → judge (lines (drop at text)) said place ≡ Err fault
   unfolding onwards
   judge_stop f = judge_here ∙ rw f refl
 
 -- At the end of the text the end itself is judged.
-pub judge_end : (text : List ℕ) (at : ℕ) (said : Number) (place : ℕ) → length text ≤ at → judge (lines (drop at text)) said place ≡ end_of said place
+pub judge_end : (text : List ℕ) (at : ℕ) (said : Option ℕ) (place : ℕ) → length text ≤ at → judge (lines (drop at text)) said place ≡ end_of said place
 unfolding judge
 judge_end text at said place h = rw (lines_end text at h) refl

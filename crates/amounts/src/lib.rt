@@ -2,12 +2,12 @@
 #![tactic(auto)]
 
 ghost use Rattle.std.specs.Prelude.{◌≡◌, ◌≤◌, length};
-ghost use Rattle.amounts.specs.Lines.{value_of, flow_of, kind_of, step_of, end_of, judged};
+ghost use Rattle.amounts.specs.Lines.{value_of, flow_of, kind_of, step_of, judged};
 
-use scan::Number;
+use scan::Fault;
 
 // The tail, the head and the flow of an `f` line.
-#[derive(Clone, Copy)]
+#[derive(Clone, Copy, Debug, PartialEq, Eq)]
 pub struct Amount {
     pub tail: u32,
     pub head: u32,
@@ -15,7 +15,7 @@ pub struct Amount {
 }
 
 // What a line is.
-#[derive(Clone, Copy)]
+#[derive(Clone, Copy, Debug, PartialEq, Eq)]
 pub enum Kind {
     Comment,
     ValueLine(u32),
@@ -23,122 +23,82 @@ pub enum Kind {
     Other,
 }
 
-// What one more line does: the lines go on, with the value that the `s` line has said by then, or it is at fault.
-#[derive(Clone, Copy)]
-pub enum Step {
-    On(Number),
-    Stop,
-}
-
-// What the lines say: the value of the `s` line, or the first line at fault.
-#[derive(Clone, Copy)]
-pub enum Judged {
-    Says(u32),
-    Fault(u32),
-}
-
 // `s VALUE`, of a line whose first field is `s`.
+#[tactic(auto, unfolding(crate::specs::Lines::value_of, crate::specs::Lines::value_from))]
 fn value_line(line: &[u8]) -> Kind
     ensures { result ≡ value_of line.now }
 {
     if scan::field_count(line) != 2 {
         return Kind::Other;
     }
-    let Number::Value(value) = scan::number_at(line, 1) else {
+    let Some(value) = scan::number_at(line, 1) else {
         return Kind::Other;
     };
     Kind::ValueLine(value)
 }
 
 // `f TAIL HEAD FLOW`, of a line whose first field is `f`.
+#[tactic(auto, unfolding(crate::specs::Lines::flow_of, crate::specs::Lines::flow_from))]
 fn flow_line(line: &[u8]) -> Kind
     ensures { result ≡ flow_of line.now }
 {
     if scan::field_count(line) != 4 {
         return Kind::Other;
     }
-    let Number::Value(tail) = scan::number_at(line, 1) else {
+    let Some(tail) = scan::number_at(line, 1) else {
         return Kind::Other;
     };
-    let Number::Value(head) = scan::number_at(line, 2) else {
+    let Some(head) = scan::number_at(line, 2) else {
         return Kind::Other;
     };
-    let Number::Value(flow) = scan::number_at(line, 3) else {
+    let Some(flow) = scan::number_at(line, 3) else {
         return Kind::Other;
     };
-    Kind::FlowLine(Amount {
-        tail: tail,
-        head: head,
-        flow: flow,
-    })
+    Kind::FlowLine(Amount { tail, head, flow })
 }
 
 // What a line is.
+#[tactic(auto, unfolding(crate::specs::Lines::kind_of))]
 pub fn line_kind(line: &[u8]) -> Kind
     ensures { result ≡ kind_of line.now }
 {
     if scan::begins_with(line, b"c") {
-        return Kind::Comment;
+        Kind::Comment
+    } else if scan::has_letter(line, 0, b's') {
+        value_line(line)
+    } else if scan::has_letter(line, 0, b'f') {
+        flow_line(line)
+    } else {
+        Kind::Other
     }
-    if scan::has_letter(line, 0, b's') {
-        return value_line(line);
-    }
-    if scan::has_letter(line, 0, b'f') {
-        return flow_line(line);
-    }
-    Kind::Other
 }
 
-// What a line does.
-fn take_line(said: Number, kind: Kind) -> Step
-    ensures { result ≡ step_of said kind }
+// What the `s` line has said once this line is taken, where the line stands in order; `said` is what it said before.
+#[tactic(auto, unfolding(crate::specs::Lines::step_of))]
+fn take_line(said: Option<u32>, kind: Kind, line: u32) -> Result<Option<u32>, Fault>
+    ensures { result ≡ step_of said kind line }
 {
-    match kind {
-        Kind::Comment => Step::On(said),
-        Kind::ValueLine(value) => match said {
-            Number::NoNumber => Step::On(Number::Value(value)),
-            Number::Value(_) => Step::Stop,
-        },
-        Kind::FlowLine(_) => match said {
-            Number::NoNumber => Step::Stop,
-            Number::Value(value) => Step::On(Number::Value(value)),
-        },
-        Kind::Other => Step::Stop,
+    match (kind, said) {
+        (Kind::Comment, said) => Ok(said),
+        (Kind::ValueLine(value), None) => Ok(Some(value)),
+        (Kind::FlowLine(_), Some(value)) => Ok(Some(value)),
+        _ => Err(Fault { line }),
     }
 }
 
-// The end of the text.
-fn end_step(said: Number, place: u32) -> Judged
-    ensures { result ≡ end_of said place }
-{
-    match said {
-        Number::Value(value) => Judged::Says(value),
-        Number::NoNumber => Judged::Fault(place),
-    }
-}
-
-// The text is judged in line order.
-pub fn judge_lines(text: &[u8]) -> Judged
+// The text is judged in line order: the value of the `s` line, or the first line at fault.
+pub fn judge_lines(text: &[u8]) -> Result<u32, Fault>
     requires { length text.now ≤ 1048576 }
     ensures { result ≡ judged text.now }
 {
-    let mut said = Number::NoNumber;
-    let mut place: u32 = 1;
+    let mut said = None;
+    let mut line: u32 = 1;
     let mut start: usize = 0;
     while start < text.len() {
         let end = scan::find(text, b'\n', start);
-        let kind = line_kind(&text[start..end]);
-        let done = take_line(said, kind);
-        match done {
-            Step::On(next) => {
-                said = next;
-            }
-            Step::Stop => {
-                return Judged::Fault(place);
-            }
-        }
-        place += 1;
+        said = take_line(said, line_kind(&text[start..end]), line)?;
+        line += 1;
         start = end + 1;
     }
-    end_step(said, place)
+    said.ok_or(Fault { line })
 }

@@ -54,7 +54,7 @@ fn write_flows(flow: &mut [u8], flows: &[u32], m: usize)
     requires { (m ≤ 4096) × (m ≤ length flows.now) × (4 * m ≤ length flow.old) }
     ensures { flow.new ≡ bytes_of_all 4 (take m flows.now) ++ drop (4 * m) flow.old }
 {
-    codec::put_all32(flow, &flows[..m]);
+    codec::put_all(flow, &flows[..m]);
 }
 
 // Writes n marks.
@@ -80,7 +80,7 @@ fn write_result(res: &mut [u8], a: Answer)
         a.nonsaturating,
         a.relabels,
     ];
-    codec::put_all64(res, &numbers);
+    codec::put_all(res, &numbers);
 }
 
 // Solves an accepted table with room, in rows of its own, and writes the answer as bytes.
@@ -192,7 +192,7 @@ fn write_reading(res: &mut [u8], r: Reading)
         rows::wide(r.capacity),
         rows::wide(r.crossing),
     ];
-    codec::put_all64(res, &numbers);
+    codec::put_all(res, &numbers);
 }
 
 // What was read, as bytes.

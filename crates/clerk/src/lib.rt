@@ -2,62 +2,34 @@
 #![tactic(auto)]
 
 ghost use Rattle.std.specs.Prelude.{◌≤◌, length};
-ghost use Rattle.clerk.specs.Reading.{TurnWithin, TakenWithin};
+ghost use Rattle.clerk.specs.Reading.{TakenWithin};
 
 use std::fs::{Files, OpenOptions};
 use std::io;
 use std::io::{Read, Write};
 
-// What one read says: the row is filled so far, the input has ended, or the read failed, and why.
-#[derive(Clone, Copy)]
-pub enum Turn {
-    Filled(usize),
-    Ended,
-    Failed(io::Error),
-}
-
-// What reading a file says: it was read to its end, or until the row was full, so many bytes; or a read failed, and why.
-#[derive(Clone, Copy)]
-pub enum Taken {
-    Whole(usize),
-    Failed(io::Error),
-}
-
-// How the answering of a text ended: it was answered, it was refused, or it was not read or not written.
-#[derive(Clone, Copy)]
+// How the answering of a text ended, with its status: it was answered, it was refused, or it was not read or not written.
+#[derive(Clone, Copy, Debug, PartialEq, Eq)]
 pub enum Ending {
-    Answered,
-    Refused,
-    Failed,
+    Answered = 0,
+    Refused = 1,
+    Failed = 2,
 }
 
-// Reads once, to the row from `filled` on.
-fn read_on<F: Read>(file: &mut F, row: &mut [u8], filled: usize) -> Turn
-    requires { filled ≤ length row.old }
-    ensures { TurnWithin filled (length row.new) result }
-{
-    let part: &mut [u8] = &mut row[filled..];
-    match file.read(part) {
-        Ok(0) => Turn::Ended,
-        Ok(more) => Turn::Filled(filled + more),
-        Err(error) => Turn::Failed(error),
-    }
-}
-
-// Reads a file to its end, or until the row is full. An end is told from a failure: a text that was not read whole is not answered.
-pub fn read_whole<F: Read>(file: &mut F, row: &mut [u8]) -> Taken
+// Reads a file to its end, or until the row is full, and says how many bytes it read. An end is told from a failure: a text that was not read whole is not answered.
+pub fn read_whole<F: Read>(file: &mut F, row: &mut [u8]) -> io::Result<usize>
     ensures { TakenWithin (length row.new) result }
 {
     let mut filled = 0;
     while filled < row.len() {
-        let turn = read_on(file, row, filled);
-        match turn {
-            Turn::Filled(next) => filled = next,
-            Turn::Ended => return Taken::Whole(filled),
-            Turn::Failed(error) => return Taken::Failed(error),
+        let part: &mut [u8] = &mut row[filled..];
+        let more = file.read(part)?;
+        if more == 0 {
+            break;
         }
+        filled += more;
     }
-    Taken::Whole(filled)
+    Ok(filled)
 }
 
 // Says on standard error what could not be read or written, and why. Where that cannot be written either, nobody can be told.
@@ -72,9 +44,10 @@ fn print<R: Print + Eprint>(rt: &R, answer: &[u8]) -> Ending {
         return Ending::Failed;
     }
     if report::is_refusal(answer) {
-        return Ending::Refused;
+        Ending::Refused
+    } else {
+        Ending::Answered
     }
-    Ending::Answered
 }
 
 // Prints the answer of a text. The row lent for it holds 65,536 bytes; no answer has more than 35,061 (counter's `desk_length`).
@@ -89,26 +62,17 @@ fn print_answer<R: Print + Eprint>(rt: &R, text: &[u8]) -> Ending {
 pub fn answer<R: Print + Eprint, F: Read>(rt: &R, file: &mut F, name: &str) -> Ending {
     let mut text = [0u8; 65537];
     match read_whole(file, &mut text) {
-        Taken::Failed(error) => {
+        Ok(length) => print_answer(rt, &text[..length]),
+        Err(error) => {
             say(rt, name, error);
             Ending::Failed
         }
-        Taken::Whole(length) => print_answer(rt, &text[..length]),
     }
 }
 
-// The status of an ending, as a digit: 0 answered, 1 refused, 2 not read or not written.
-fn status(ending: Ending) -> u8 {
-    match ending {
-        Ending::Answered => b'0',
-        Ending::Refused => b'1',
-        Ending::Failed => b'2',
-    }
-}
-
-// Writes the status to descriptor 3, where whoever started the program reads it; where nobody opened that, nothing is written.
+// Writes the status, as a digit, to descriptor 3, where whoever started the program reads it; where nobody opened that, nothing is written.
 pub fn tell<R: Files>(rt: &R, ending: Ending) {
     if let Ok(mut file) = OpenOptions::new().append(true).open(rt, "/dev/fd/3") {
-        let _ = file.write_all(&[status(ending)]);
+        let _ = file.write_all(&[b'0' + ending as u8]);
     }
 }

@@ -1,94 +1,59 @@
--- Laws of little-endian numbers in rows: four bytes as one number, two numbers as one, and rows of numbers written one after the other.
-use Prim.Native.Nat.{ℕ, zero, suc, ◌+◌, ◌-◌, ◌*◌, ◌/◌, ◌%◌, ◌≤◌, ◌<◌}
+-- Laws of little-endian numbers in rows: as the library reads and writes them, and rows of numbers written one after the other.
+use Prim.Native.Nat.{ℕ, zero, suc, ◌+◌, ◌*◌, ◌/◌, ◌<◌}
 use mathlib.Core.Path.{◌≡◌, refl, sym, ap, ◌∙◌}
 use mathlib.Core.List.{List, [], ◌∷◌, ◌++◌, append_assoc, append-nil}
-use native.Mathlib.Nat.{mul-zero, mul-suc, mul-le-mul_left}
+use native.Mathlib.Nat.{mul-zero, mul-suc}
 use native.Mathlib.Numerals.{add-one}
 use native.Mathlib.Omega.{arith}
-use lib.ListN.{length, get_or, take, drop, length-append, length-drop}
-use lib.Seq.{take-length, take-suc, take_at, drop_at, drop-drop, take-add, length-take-le}
-use Rattle.rows.specs.Row.{part}
+use lib.ListN.{length, get_or, take, drop, length-append}
+use lib.Seq.{take-length, take-suc, take_at, drop_at, drop-drop, length-take-le}
+use Rattle.std.specs.Int.{w32, w64, from_le_bytes, to_le_bytes}
 use Rattle.parts.specs.Placed.{placed}
 use Rattle.little.specs.Little.{number, bytes_of, bytes_of_all}
 
--- Four bytes.
-pub four_number : (row : List ℕ) → length row ≡ 4 → number row ≡ get_or row 0 0 + 256 * get_or row 1 0 + 65536 * (get_or row 2 0 + 256 * get_or row 3 0)
+-- The library reads four bytes so,
+pub four_read : (row : List ℕ) → length row ≡ 4 → from_le_bytes w32 row ≡ number row
 unfolding number
-four_number [] e = absurd (omega arith)
-four_number (a ∷ []) e = absurd (omega arith)
-four_number (a ∷ b ∷ []) e = absurd (omega arith)
-four_number (a ∷ b ∷ c ∷ []) e = absurd (omega arith)
-four_number (a ∷ b ∷ c ∷ d ∷ []) e = omega arith
-four_number (a ∷ b ∷ c ∷ d ∷ x ∷ row) e = absurd (omega arith)
+four_read [] e = absurd (omega arith)
+four_read (a ∷ []) e = absurd (omega arith)
+four_read (a ∷ b ∷ []) e = absurd (omega arith)
+four_read (a ∷ b ∷ c ∷ []) e = absurd (omega arith)
+four_read (a ∷ b ∷ c ∷ d ∷ []) e = omega arith
+four_read (a ∷ b ∷ c ∷ d ∷ x ∷ row) e = absurd (omega arith)
 
--- Four bytes and more.
-four_and_more : (row more : List ℕ) → length row ≡ 4 → number (row ++ more) ≡ number row + 4294967296 * number more
+-- and eight,
+pub eight_read : (row : List ℕ) → length row ≡ 8 → from_le_bytes w64 row ≡ number row
 unfolding number
-four_and_more [] more e = absurd (omega arith)
-four_and_more (a ∷ []) more e = absurd (omega arith)
-four_and_more (a ∷ b ∷ []) more e = absurd (omega arith)
-four_and_more (a ∷ b ∷ c ∷ []) more e = absurd (omega arith)
-four_and_more (a ∷ b ∷ c ∷ d ∷ []) more e = omega arith
-four_and_more (a ∷ b ∷ c ∷ d ∷ x ∷ row) more e = absurd (omega arith)
+eight_read [] e = absurd (omega arith)
+eight_read (a ∷ []) e = absurd (omega arith)
+eight_read (a ∷ b ∷ []) e = absurd (omega arith)
+eight_read (a ∷ b ∷ c ∷ []) e = absurd (omega arith)
+eight_read (a ∷ b ∷ c ∷ d ∷ []) e = absurd (omega arith)
+eight_read (a ∷ b ∷ c ∷ d ∷ f ∷ []) e = absurd (omega arith)
+eight_read (a ∷ b ∷ c ∷ d ∷ f ∷ g ∷ []) e = absurd (omega arith)
+eight_read (a ∷ b ∷ c ∷ d ∷ f ∷ g ∷ h ∷ []) e = absurd (omega arith)
+eight_read (a ∷ b ∷ c ∷ d ∷ f ∷ g ∷ h ∷ i ∷ []) e = omega arith
+eight_read (a ∷ b ∷ c ∷ d ∷ f ∷ g ∷ h ∷ i ∷ x ∷ row) e = absurd (omega arith)
 
--- Two 32-bit numbers side by side are one of 64 bits.
-pub eight_number : (row : List ℕ) (at : ℕ) → at + 8 ≤ length row → number (part at (at + 8) row) ≡ number (part at (at + 4) row) + 4294967296 * number (part (at + 4) (at + 4 + 4) row)
-eight_number row at inside =
-    let eight : (at + 8) - at ≡ 4 + 4 = omega arith in
-    let first : (at + 4) - at ≡ 4 = omega arith in
-    let second : (at + 4 + 4) - (at + 4) ≡ 4 = omega arith in
-    rw (eight, first, second, take-add 4 4 (drop at row), drop-drop 4 at row)
-    (four_and_more (take 4 (drop at row)) (take 4 (drop (at + 4) row)) (length-take-le 4 (drop at row) (omega (arith, length-drop at row))))
-
--- The bytes of a number made of two halves.
-halves : (low high : ℕ) → low < 4294967296 → bytes_of 8 (low + 4294967296 * high) ≡ bytes_of 4 low ++ bytes_of 4 high
+-- and writes four
+pub four_written : (x : ℕ) → to_le_bytes w32 x ≡ bytes_of 4 x
 unfolding bytes_of
-halves low high small =
-    let b : (low + 4294967296 * high) / 256 ≡ low / 256 + 16777216 * high = omega arith in
-    let c : (low / 256 + 16777216 * high) / 256 ≡ low / 256 / 256 + 65536 * high = omega arith in
-    let d : (low / 256 / 256 + 65536 * high) / 256 ≡ low / 256 / 256 / 256 + 256 * high = omega arith in
-    let top : low / 256 / 256 / 256 < 256 = omega arith in
-    let rest : (low / 256 / 256 / 256 + 256 * high) / 256 ≡ high = omega arith in
-    let a' : (low + 4294967296 * high) % 256 ≡ low % 256 = omega arith in
-    let b' : (low / 256 + 16777216 * high) % 256 ≡ low / 256 % 256 = omega arith in
-    let c' : (low / 256 / 256 + 65536 * high) % 256 ≡ low / 256 / 256 % 256 = omega arith in
-    let d' : (low / 256 / 256 / 256 + 256 * high) % 256 ≡ low / 256 / 256 / 256 % 256 = omega arith in
-    rw (b, c, d, rest, a', b', c', d')
+four_written x =
+    let b : x / 256 / 256 ≡ x / 65536 = omega arith in
+    let c : x / 65536 / 256 ≡ x / 16777216 = omega arith in
+    rw (b, c) refl
 
--- The eight bytes of a number are the four of its lower half and the four of its upper half,
-pub eight_bytes : (x : ℕ) → bytes_of 8 x ≡ bytes_of 4 (x % 4294967296) ++ bytes_of 4 (x / 4294967296)
-eight_bytes x = ap (bytes_of 8) split ∙ halves (x % 4294967296) (x / 4294967296) (omega arith)
-  where
-    split : x ≡ x % 4294967296 + 4294967296 * (x / 4294967296)
-    split = omega arith
-
--- and four bytes written behind four are eight.
-pub placed_twice : (at : ℕ) (row low high : List ℕ) → at + 8 ≤ length row → length low ≡ 4
-    → placed (at + 4) (at + 4 + 4) high (placed at (at + 4) low row) ≡ placed at (at + 8) (low ++ high) row
-placed_twice at row low high inside four =
-    let end : at + 4 + 4 ≡ at + 8 = omega arith in
-    rw (front, behind, end, append_assoc (take at row) low (high ++ drop (at + 8) row), append_assoc low high (drop (at + 8) row))
-  where
-    size : length (take at row ++ low) ≡ at + 4
-    size = length-append (take at row) low ∙ omega (arith, length-take-le at row (omega arith), four)
-
-    joined : placed at (at + 4) low row ≡ (take at row ++ low) ++ drop (at + 4) row
-    joined = sym (append_assoc (take at row) low (drop (at + 4) row))
-
-    front : take (at + 4) (placed at (at + 4) low row) ≡ take at row ++ low
-    front = ap (take (at + 4)) joined ∙ take_at (take at row ++ low) (drop (at + 4) row) (at + 4) size
-
-    behind : drop (at + 4 + 4) (placed at (at + 4) low row) ≡ drop (at + 4 + 4) row
-    behind =
-        sym (drop-drop 4 (at + 4) (placed at (at + 4) low row))
-        ∙ ap (drop 4) (ap (drop (at + 4)) joined ∙ drop_at (take at row ++ low) (drop (at + 4) row) (at + 4) size)
-        ∙ drop-drop 4 (at + 4) row
-
--- ---- a column
-
--- A record is inside the rows of records.
-pub record_inside : (step k count : ℕ) → k < count → step * k + step ≤ step * count
-record_inside step k count l = rw (← mul-suc step k) (mul-le-mul_left step l)
+-- and eight.
+pub eight_written : (x : ℕ) → to_le_bytes w64 x ≡ bytes_of 8 x
+unfolding bytes_of
+eight_written x =
+    let b : x / 256 / 256 ≡ x / 65536 = omega arith in
+    let c : x / 65536 / 256 ≡ x / 16777216 = omega arith in
+    let d : x / 16777216 / 256 ≡ x / 4294967296 = omega arith in
+    let f : x / 4294967296 / 256 ≡ x / 1099511627776 = omega arith in
+    let g : x / 1099511627776 / 256 ≡ x / 281474976710656 = omega arith in
+    let h : x / 281474976710656 / 256 ≡ x / 72057594037927936 = omega arith in
+    rw (b, c, d, f, g, h) refl
 
 -- ---- rows of numbers
 

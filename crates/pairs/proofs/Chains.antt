@@ -114,25 +114,6 @@ module _ (tail head : ℕ → ℕ) where
 
 -- ---- chains
 
-module _ {heads next : List ℕ} {b from found : ℕ} where
-  -- A chain at its end leads nowhere,
-  pub leads_end : Leads heads next b from found → from ≡ 0 → found ≡ 0
-  leads_end (ended _ _ e f) z = f
-  leads_end (here k _ _ e f g) z = absurd (omega arith)
-  leads_end (on k _ _ e f g) z = absurd (omega arith)
-
-  -- one at an arc with that head leads there,
-  pub leads_here : Leads heads next b from found → (k : ℕ) → from ≡ suc k → at_place heads k ≡ b → from ≡ found
-  leads_here (ended _ _ e f) k z is = absurd (omega arith)
-  leads_here (here j _ _ e f g) k z is = sym f
-  leads_here (on j _ _ e f g) k z is = let same : j ≡ k = omega arith in absurd (f (ap (at_place heads) same ∙ is))
-
-  -- and else it goes on.
-  pub leads_on : Leads heads next b from found → (k : ℕ) → from ≡ suc k → (at_place heads k ≡ b → ⊥) → Leads heads next b (at_place next k) found
-  leads_on (ended _ _ e f) k z no' = absurd (omega arith)
-  leads_on (here j _ _ e f g) k z no' = let same : j ≡ k = omega arith in absurd (no' (ap (at_place heads) (sym same) ∙ g))
-  leads_on (on j _ _ e f g) k z no' = let same : j ≡ k = omega arith in subst (λ (i : ℕ). Leads heads next b (at_place next i) found) same g
-
 -- A chain whose places fall does not lead up,
 pub leads_within : {heads next : List ℕ} {b from found : ℕ} → ((k : ℕ) → at_place next k ≤ k) → Leads heads next b from found → found ≤ from
 leads_within falls (ended _ _ e f) = omega arith

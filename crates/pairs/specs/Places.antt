@@ -1,5 +1,5 @@
 -- Where a pair's number is kept: at the place of the pair's first arc, found by the chain of its tail. Only contracts of the crates above speak of it.
-use Rattle.std.specs.Prelude.{ℕ, zero, suc, ◌+◌, ◌*◌, ◌-◌, ◌%◌, ◌≤◌, ◌<◌, ◌≡◌, Bool, true, false, ◌&&◌, List, leb, length}
+use Rattle.std.specs.Prelude.{ℕ, zero, suc, ◌+◌, ◌*◌, ◌-◌, ◌%◌, ◌≤◌, ◌<◌, ◌≡◌, Bool, true, false, ◌&&◌, List, leb, length, Option, Some, None}
 use Rattle.rows.specs.Row.{Node, at_place}
 use Rattle.rows.specs.Sum.{sum, only}
 use Rattle.amounts.specs.declared.Amount.{Amount}
@@ -43,6 +43,11 @@ pub record Places (n : ℕ) (heads first next : List ℕ) (place : ℕ → ℕ �
 pub record Built (n k : ℕ) (tails heads first next : List ℕ) : Type 0 where
   pub places : Places n heads first next (first_to (at_place tails) (at_place heads) k)
   pub begun : (q : ℕ) → at_place first q ≤ k
+
+-- A place counted from 1, and 0 for none.
+abbrev pub counted : Option ℕ → ℕ
+counted None = 0
+counted (Some k) = suc k
 
 -- What is kept at a place that counts from 1, and nothing at 0.
 abbrev pub kept_at : List ℕ → ℕ → ℕ

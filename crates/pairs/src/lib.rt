@@ -4,7 +4,7 @@
 ghost use Rattle.std.specs.Prelude.{ℕ, ◌+◌, ◌*◌, ◌≤◌, ◌<◌, ◌≡◌, [], ◌∷◌, length};
 ghost use Rattle.rows.specs.Row.{at_place};
 ghost use Rattle.table.specs.Accepted.{ArcEnds, ArcRows};
-ghost use Rattle.pairs.specs.Places.{is_node, first_to, chain_of, Leads, Places, Built, room_at, pair_capacity, Takes, Zeros};
+ghost use Rattle.pairs.specs.Places.{is_node, first_to, chain_of, counted, Leads, Places, Built, room_at, pair_capacity, Takes, Zeros};
 
 use amounts::Amount;
 
@@ -23,29 +23,29 @@ fn chain_of(a: u32, b: u32) -> usize
     (a - 1) as usize * 8 + (b % 8) as usize
 }
 
-// The first arc with this head in the chain that begins here, its place counted from 1; 0 where there is none.
-fn find_from(heads: &[u32], next: &[u32], b: u32, from: u32) -> u32
+// The first arc with this head in the chain that begins here, if there is one.
+fn find_from(heads: &[u32], next: &[u32], b: u32, from: u32) -> Option<usize>
     requires { ((k : ℕ) → at_place next.now k ≤ k) × (from ≤ length heads.now) × (length heads.now ≤ length next.now) }
-    ensures { (found : ℕ) → Leads heads.now next.now b from found → result ≡ found }
+    ensures { (found : ℕ) → Leads heads.now next.now b from found → counted result ≡ found }
 {
     let mut at = from;
     while 0 < at {
         let k = (at - 1) as usize;
         if heads[k] == b {
-            return at;
+            return Some(k);
         }
         at = next[k];
     }
-    0
+    None
 }
 
-// The place of a pair, counted from 1; 0 where no arc has it.
-fn find_pair(n: u32, heads: &[u32], first: &[u32], next: &[u32], a: u32, b: u32) -> u32
+// The place of a pair, if some arc has it.
+fn find_pair(n: u32, heads: &[u32], first: &[u32], next: &[u32], a: u32, b: u32) -> Option<usize>
     requires { (place : ℕ → ℕ → ℕ) × Places n heads.now first.now next.now place }
-    ensures { (place : ℕ → ℕ → ℕ) → Places n heads.now first.now next.now place → result ≡ place a b }
+    ensures { (place : ℕ → ℕ → ℕ) → Places n heads.now first.now next.now place → counted result ≡ place a b }
 {
     if !is_node(n, a) {
-        return 0;
+        return None;
     }
     find_from(heads, next, b, first[chain_of(a, b)])
 }
@@ -63,12 +63,11 @@ fn index_arc(
     requires built { Built n place tails.now heads.now first.old next.old }
     ensures { Built n (place + 1) tails.now heads.now first.new next.new }
 {
-    if find_pair(n, heads, first, next, tails[place], heads[place]) != 0 {
-        return;
+    if find_pair(n, heads, first, next, tails[place], heads[place]).is_none() {
+        let chain = chain_of(tails[place], heads[place]);
+        next[place] = first[chain];
+        first[chain] = place as u32 + 1;
     }
-    let chain = chain_of(tails[place], heads[place]);
-    next[place] = first[chain];
-    first[chain] = place as u32 + 1;
 }
 
 // Puts the first arc of each pair into its chain, in two rows that hold zeros.
@@ -78,10 +77,8 @@ pub fn index_arcs(n: u32, tails: &[u32], heads: &[u32], first: &mut [u32], next:
     ensures { let place = first_to (at_place tails.now) (at_place heads.now) (length tails.now) in
         Places n heads.now first.new next.new place }
 {
-    let mut place: usize = 0;
-    while place < tails.len() {
+    for place in 0..tails.len() {
         index_arc(n, tails, heads, place, first, next);
-        place += 1;
     }
 }
 
@@ -100,11 +97,10 @@ pub fn fill_room(
     ensures { let place = first_to (at_place tails.now) (at_place heads.now) (length tails.now) in
         (a b : ℕ) → room_at place room.new a b ≡ pair_capacity tails.now heads.now capacities.now a b }
 {
-    let mut place: usize = 0;
-    while place < capacities.len() {
-        let at = (find_pair(n, heads, first, next, tails[place], heads[place]) - 1) as usize;
-        room[at] = room[at] + capacities[place];
-        place += 1;
+    for place in 0..capacities.len() {
+        if let Some(at) = find_pair(n, heads, first, next, tails[place], heads[place]) {
+            room[at] += capacities[place];
+        }
     }
 }
 
@@ -122,14 +118,12 @@ pub fn take_pair(
         → Takes place room.old (x ∷ []) result room.new }
 {
     let flow = x.flow;
-    let found = find_pair(n, heads, first, next, x.tail, x.head);
-    if found == 0 {
+    let Some(at) = find_pair(n, heads, first, next, x.tail, x.head) else {
         return flow == 0;
-    }
-    let at = (found - 1) as usize;
+    };
     if room[at] < flow {
         return false;
     }
-    room[at] = room[at] - flow;
+    room[at] -= flow;
     true
 }

@@ -71,11 +71,7 @@ pub record Partly (row : List ℕ) (at : ℕ) (whole rest row' : List ℕ) (r : 
   pub left : whole ≡ done ++ rest
 
 module _ {row : List ℕ} {at : ℕ} {whole : List ℕ} where
-  -- At first all are left,
-  pub partly_none : at ≤ length row → Partly row at whole whole row at
-  partly_none h = record { done = []; wrote = wrote_nothing h; left = refl }
-
-  -- then the next ones are written,
+  -- The next ones are written,
   pub partly_more : {next rest all row' row'' : List ℕ} {r s : ℕ} → Partly row at whole all row' r → Wrote row' r next row'' s → all ≡ next ++ rest → Partly row at whole rest row'' s
   partly_more {next} {rest} p w e =
       record { done = p.done ++ next; wrote = wrote_then p.wrote w; left = p.left ∙ rw (e, ← append_assoc p.done next rest) refl }

@@ -15,9 +15,10 @@ pub fn put(out: &mut [u8], at: usize, byte: u8) -> usize
 {
     if at < out.len() {
         out[at] = byte;
-        return at + 1;
+        at + 1
+    } else {
+        at
     }
-    at
 }
 
 // A text.
@@ -26,10 +27,8 @@ pub fn put_bytes(out: &mut [u8], at: usize, text: &[u8]) -> usize
     ensures { Wrote out.old at text.now out.new result }
 {
     let mut place = at;
-    let mut i: usize = 0;
-    while i < text.len() {
-        place = put(out, place, text[i]);
-        i += 1;
+    for byte in text {
+        place = put(out, place, *byte);
     }
     place
 }
@@ -39,11 +38,13 @@ pub fn put_number(out: &mut [u8], at: usize, n: u64) -> usize
     requires { at ≤ length out.old }
     ensures { Wrote out.old at (printed n) out.new result }
 {
+    let digit = b'0' + (n % 10) as u8;
     if n < 10 {
-        return put(out, at, b'0' + (n % 10) as u8);
+        put(out, at, digit)
+    } else {
+        let place = put_number(out, at, n / 10);
+        put(out, place, digit)
     }
-    let place = put_number(out, at, n / 10);
-    put(out, place, b'0' + (n % 10) as u8)
 }
 
 // A line: what names it, a number and LF.
@@ -63,9 +64,10 @@ pub fn put_further(out: &mut [u8], at: usize, some: bool, n: u64) -> usize
 {
     if some {
         let place = put(out, at, b' ');
-        return put_number(out, place, n);
+        put_number(out, place, n)
+    } else {
+        put_number(out, at, n)
     }
-    put_number(out, at, n)
 }
 
 // Numbers parted by one blank.
@@ -75,11 +77,9 @@ pub fn put_numbers(out: &mut [u8], at: usize, numbers: &[u32]) -> usize
 {
     let mut place = at;
     let mut some = false;
-    let mut i: usize = 0;
-    while i < numbers.len() {
-        place = put_further(out, place, some, rows::wide(numbers[i]));
+    for number in numbers {
+        place = put_further(out, place, some, u64::from(*number));
         some = true;
-        i += 1;
     }
     place
 }

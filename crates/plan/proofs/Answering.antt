@@ -5,6 +5,7 @@ use mathlib.Core.List.{List}
 use lib.Dec.{leb}
 use lib.ListN.{length}
 use borrow.Author.Tests.{leb-true}
+use Rattle.std.specs.Prelude.{Ok, Err}
 use Rattle.table.specs.Table.{Table}
 use Rattle.table.specs.Accepted.{Accepted}
 use Rattle.table.specs.Checks.{or_else, no_refusal, refused, Verdict}
@@ -15,7 +16,7 @@ use Rattle.minimums.specs.BoundedTable.{BoundedTable}
 use Rattle.scan.specs.Parts.{lines}
 use Rattle.intake.specs.Verdict.{text_verdict}
 use Rattle.intake.proofs.Verdicts.{text_accepts, text_not_long}
-use Rattle.amounts.specs.declared.Judged.TheVariants.{Says, Fault}
+use Rattle.scan.specs.declared.Fault.{Fault}
 use Rattle.amounts.specs.Lines.{judged, amounts_of}
 use Rattle.sharing.specs.Full.{Full}
 use Rattle.plan.specs.declared.Checked.{Checked}
@@ -23,12 +24,12 @@ use Rattle.plan.specs.Checking.{lines_verdict, plan_verdict, checked_with, Flags
 
 module _ (t : Table) (text side : List ℕ) (r : Checked) where
   -- A line is at fault,
-  pub answers_fault : (place : ℕ) → judged text ≡ Fault place → r ≡ checked_with (number_of Solution) place 0 → Answers (lines_verdict (judged text)) (judged text) t text side r
+  pub answers_fault : (fault : Fault) → judged text ≡ Err fault → r ≡ checked_with (number_of Solution) fault.line 0 → Answers (lines_verdict (judged text)) (judged text) t text side r
   unfolding Answers lines_verdict
-  answers_fault place e b = rw e b
+  answers_fault fault e b = rw e b
 
   -- or the lines say a value.
-  pub answers_says : (value : ℕ) → judged text ≡ Says value → r ≡ checked_with 0 0 r.full → Flags r.full (Full t value (amounts_of (lines text)) side)
+  pub answers_says : (value : ℕ) → judged text ≡ Ok value → r ≡ checked_with 0 0 r.full → Flags r.full (Full t value (amounts_of (lines text)) side)
       → Answers (lines_verdict (judged text)) (judged text) t text side r
   unfolding Answers lines_verdict
   answers_says value e b f = rw e (b, f)

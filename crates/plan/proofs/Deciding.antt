@@ -1,23 +1,20 @@
 -- What the tests decide: whether the sums fit, whether the cut does, and whether the plan is full.
-use Prim.Native.Nat.{ℕ, zero, suc, ◌+◌, ◌-◌, ◌≤◌}
+use Prim.Native.Nat.{ℕ, zero, suc, ◌+◌, ◌-◌}
 use mathlib.Core.Path.{◌≡◌, refl, sym, ap, ◌∙◌}
 use mathlib.Core.Bool.{Bool, true, false, true≢false}
 use mathlib.Core.List.{List}
 use native.Mathlib.Omega.{arith}
-use lib.Dec.{eqb}
 use lib.ListN.{length, get_or, replicate, length-replicate}
-use borrow.Author.Tests.{eqb-true, eqb-false}
+use Rattle.std.specs.Int.{from_bool}
 use Rattle.rows.specs.Row.{Node}
-use Rattle.network.specs.Network.{leaving}
-use Rattle.table.specs.Table.{Table, capacity, network_of}
+use Rattle.table.specs.Table.{Table}
 use Rattle.table.specs.Accepted.{Accepted}
-use Rattle.reach.specs.Side.{marked}
 use Rattle.amounts.specs.declared.Amount.{Amount}
 use Rattle.sharing.specs.Full.{Full}
 use Rattle.plan.specs.Checking.{Flags}
 use Rattle.sharing.specs.Test.{out_sum, into_sum, SumsFit, CutFits}
 use Rattle.pairs.specs.Places.{Zeros}
-use Rattle.plan.specs.Rows.{IsBelow, HoldsAt, IsKept, Decides}
+use Rattle.plan.specs.Rows.{HoldsAt, IsKept, Decides}
 use Rattle.sharing.proofs.Sharing.{balanced_full, full_balanced}
 
 -- A new row is as long as it was made,
@@ -30,24 +27,14 @@ zeros_row zero k = refl
 zeros_row (suc n) zero = refl
 zeros_row (suc n) (suc k) = zeros_row n k
 
--- What goes out of a node is what goes into it and the value, by the test of the code.
-pub net_decides : (out into value v : ℕ) → into ≤ out → v ≡ value → (b : Bool) → b ≡ eqb (out - into) v → Decides b (out ≡ into + value)
-net_decides out into value v h e true t = let same = eqb-true (out - into) v (sym t) in omega arith
-net_decides out into value v h e false t = λ p. eqb-false (out - into) v (sym t) (omega arith)
-
 -- ---- the sums
 
 -- The sums of a text's amounts, out of nodes and into them.
 module _ (t : Table) (value : ℕ) (amounts : List Amount) (out into : List ℕ) (outs : HoldsAt t.nodes out (out_sum amounts)) (intos : HoldsAt t.nodes into (into_sum amounts)) where
-  -- Some sum is above the capacities of its pair,
-  pub sums_above : (took : Bool) → IsBelow t.tails t.heads t.capacities amounts took → took ≡ false → SumsFit t value amounts → ⊥
-  sums_above true all e fit = true≢false e
-  sums_above false all e fit = let (a, b, less) = all in omega (arith, fit.below a b)
-
-  -- or more goes into some node than out of it or less,
-  pub sums_uneven : (kept : Bool) → IsKept t.nodes t.source t.sink out into kept → kept ≡ false → SumsFit t value amounts → ⊥
-  sums_uneven true all e fit = true≢false e
-  sums_uneven false all e fit =
+  -- More goes into some node than out of it, or less.
+  pub sums_uneven : (kept : Bool) → IsKept t.nodes t.source t.sink out into kept → kept ≡ false → Decides kept (SumsFit t value amounts)
+  sums_uneven true all e = absurd (true≢false e)
+  sums_uneven false all e = λ fit.
       let (k, h, not_source, not_sink, differ) = all in
       let here : k + 1 - 1 ≡ k = omega arith in
       let node : Node t.nodes (k + 1) = (omega arith, omega arith) in
@@ -55,59 +42,21 @@ module _ (t : Table) (value : ℕ) (amounts : List Amount) (out into : List ℕ)
       let i : get_or into k 0 ≡ into_sum amounts (k + 1) = ap (λ (j : ℕ). get_or into j 0) (sym here) ∙ intos (k + 1) node in
       differ (i ∙ fit.kept (k + 1) (record { node = node; not_source = not_source; not_sink = not_sink }) ∙ sym o)
 
-  -- or all hangs on the net out of the source.
-  pub sums_decide : Node t.nodes t.source → (took : Bool) → IsBelow t.tails t.heads t.capacities amounts took → took ≡ true
-      → (kept : Bool) → IsKept t.nodes t.source t.sink out into kept → kept ≡ true
-      → (net : Bool) → Decides net (get_or out (t.source - 1) 0 ≡ get_or into (t.source - 1) 0 + value) → Decides net (SumsFit t value amounts)
-  sums_decide s false all e kept even f net n = absurd (true≢false (sym e))
-  sums_decide s true all e false even f net n = absurd (true≢false (sym f))
-  sums_decide s true all e true even f true n =
-      record {
-        below = all;
-        kept =
-            λ i v.
-            let here : i - 1 + 1 ≡ i = omega (arith, v.node) in
-            sym (intos i v.node) ∙ even (i - 1) (omega (arith, v.node)) (λ p. v.not_source (sym here ∙ p)) (λ p. v.not_sink (sym here ∙ p)) ∙ outs i v.node;
-        net = omega (arith, outs t.source s, intos t.source s);
-      }
-  sums_decide s true all e true even f false n = λ fit. n (omega (arith, outs t.source s, intos t.source s, fit.net))
-
--- ---- the cut
-
-module _ (t : Table) (value : ℕ) (side : List ℕ) where
-  -- The source is not marked,
-  pub cut_source : marked side t.source ≡ false → CutFits t value side → ⊥
-  cut_source e fit = true≢false (sym fit.cut.source ∙ e)
-
-  -- or the sink is,
-  pub cut_sink : marked side t.sink ≡ true → CutFits t value side → ⊥
-  cut_sink e fit = true≢false (sym e ∙ fit.cut.sink)
-
-  -- or all hangs on the capacity.
-  pub cut_decides : marked side t.source ≡ true → marked side t.sink ≡ false → (x v : ℕ) → x ≡ leaving (network_of t) (marked side) (capacity t) → v ≡ value
-      → (b : Bool) → b ≡ eqb x v → Decides b (CutFits t value side)
-  cut_decides s k x v e f true h = record { cut = record { source = s; sink = k }; least = sym e ∙ eqb-true x v (sym h) ∙ f }
-  cut_decides s k x v e f false h = λ fit. eqb-false x v (sym h) (e ∙ fit.least ∙ sym f)
-
 -- ---- the plan
 
--- What does not hold is told by 0,
-flag_none : (P : Type 0) → (P → ⊥) → Flags 0 P
-flag_none P none = record { one_or_none = omega arith; holds = λ e. absurd (omega arith); told = λ p. absurd (none p) }
+-- What is decided is told by 1 and 0.
+pub flags_from : (P : Type 0) (b : Bool) (flag : ℕ) → Decides b P → flag ≡ from_bool b → Flags flag P
+flags_from P true flag d e = record { one_or_none = omega arith; holds = λ _. d; told = λ _. e }
+flags_from P false flag d e = record { one_or_none = omega arith; holds = λ one. absurd (omega arith); told = λ p. absurd (d p) }
 
 module _ (t : Table) (ok : Accepted t) (value : ℕ) (amounts : List Amount) (side : List ℕ) where
   -- The sums do not fit,
-  pub flag_sums : (b : Bool) → Decides b (SumsFit t value amounts) → b ≡ false → Flags 0 (Full t value amounts side)
-  flag_sums true d e = absurd (true≢false e)
-  flag_sums false d e = flag_none (Full t value amounts side) (λ f. d (full_balanced t ok value amounts side f).0)
+  pub full_unfit : (b : Bool) → Decides b (SumsFit t value amounts) → b ≡ false → Decides b (Full t value amounts side)
+  full_unfit true d e = absurd (true≢false e)
+  full_unfit false d e = λ f. d (full_balanced t ok value amounts side f).0
 
-  -- or the cut does not,
-  pub flag_cut : (b : Bool) → Decides b (CutFits t value side) → b ≡ false → Flags 0 (Full t value amounts side)
-  flag_cut true d e = absurd (true≢false e)
-  flag_cut false d e = flag_none (Full t value amounts side) (λ f. d (full_balanced t ok value amounts side f).1)
-
-  -- or both do.
-  pub flag_full : (b c : Bool) → Decides b (SumsFit t value amounts) → b ≡ true → Decides c (CutFits t value side) → c ≡ true → Flags 1 (Full t value amounts side)
-  flag_full true true d e f g = record { one_or_none = omega arith; holds = λ _. balanced_full t ok value amounts side d f; told = λ _. refl }
-  flag_full true false d e f g = absurd (true≢false (sym g))
-  flag_full false c d e f g = absurd (true≢false (sym e))
+  -- or they do, and the cut decides.
+  pub full_decides : (b c : Bool) → Decides b (SumsFit t value amounts) → b ≡ true → Decides c (CutFits t value side) → Decides c (Full t value amounts side)
+  full_decides true true d e f = balanced_full t ok value amounts side d f
+  full_decides true false d e f = λ full. f (full_balanced t ok value amounts side full).1
+  full_decides false c d e f = absurd (true≢false (sym e))

@@ -7,6 +7,7 @@ use native.Mathlib.Omega.{arith}
 use lib.Dec.{eqb, leb}
 use lib.ListN.{length, length-append, get_or-append}
 use borrow.Author.Tests.{le-leb}
+use Rattle.std.specs.Prelude.{Result, Ok}
 use Rattle.rows.specs.Row.{Node, at_place}
 use Rattle.rows.specs.Sum.{sum, only}
 use Rattle.rows.proofs.Rows.{node_at}
@@ -27,8 +28,7 @@ use Rattle.scan.specs.Parts.{run as front_run}
 use Rattle.wording.specs.Text.{value_front, flow_lines, solution_text}
 use Rattle.wording.proofs.Speaking.{Fitting, ends_fit, text_short, text_front}
 use Rattle.intake.proofs.Verdicts.{text_fine}
-use Rattle.amounts.specs.declared.Judged.{Judged}
-use Rattle.amounts.specs.declared.Judged.TheVariants.{Says}
+use Rattle.scan.specs.declared.Fault.{Fault}
 use Rattle.amounts.specs.Lines.{step_of, onwards, judge, judged, amount_in, amounts_of}
 use Rattle.sharing.specs.Full.{is_pair, Full}
 use Rattle.plan.specs.declared.Checked.{Checked}
@@ -36,11 +36,11 @@ use Rattle.plan.specs.Checking.{lines_verdict, plan_verdict, checked_with, Flags
 use Rattle.plan.proofs.Worded.{lines_next, kind_value, arc_amounts, judge_flows, amounts_flows, amounts_pairs}
 
 -- What an answer says where nothing is refused.
-answers_yes : (verdict : Verdict) (said : Judged) (t : Table) (text side : List ℕ) (r : Checked) (v : ℕ) → verdict ≡ no_refusal → said ≡ Says v → Answers verdict said t text side r
+answers_yes : (verdict : Verdict) (said : Result ℕ Fault) (t : Table) (text side : List ℕ) (r : Checked) (v : ℕ) → verdict ≡ no_refusal → said ≡ Ok v → Answers verdict said t text side r
     → (r ≡ checked_with 0 0 r.full) × Flags r.full (Full t v (amounts_of (lines text)) side)
 unfolding Answers
 answers_yes verdict said t text side r v e f a =
-    subst (λ (j : Judged). Answers no_refusal j t text side r) f (subst (λ (w : Verdict). Answers w said t text side r) e a)
+    subst (λ (j : Result ℕ Fault). Answers no_refusal j t text side r) f (subst (λ (w : Verdict). Answers w said t text side r) e a)
 
 module _ (t : Table) (ok : Accepted t) where
   -- The run's flow,
@@ -85,7 +85,7 @@ module _ (t : Table) (ok : Accepted t) where
       omega (arith, (run_best t ok).answer.valid.high k here, ok.rows.small k here)
 
   -- The text says the value,
-  own_judged : judged (solution_text t own_value own_flow) ≡ Says own_value
+  own_judged : judged (solution_text t own_value own_flow) ≡ Ok own_value
   unfolding judge onwards step_of solution_text front_run
   own_judged =
       let (ft, fh, fc) = ends_fit t ok in

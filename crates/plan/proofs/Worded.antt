@@ -7,10 +7,10 @@ use native.Mathlib.Omega.{arith}
 use lib.Dec.{eqb, leb}
 use lib.ListN.{length, get_or}
 use borrow.Author.Tests.{leb-true, ne_eqb}
+use Rattle.std.specs.Prelude.{Some, Ok}
 use Rattle.rows.specs.Sum.{sum, only}
 use Rattle.rows.proofs.Sums.{both_true}
 use Rattle.table.specs.Ascii.{bytes}
-use Rattle.scan.specs.declared.Number.TheVariants.{Value}
 use Rattle.scan.specs.Parts.{in_front, parts, lines, fields, is_separator, behind, LF, run, up_to, begins_with}
 use Rattle.scan.specs.Numbers.{is_digit, all_digits, number_form, number_in}
 use Rattle.scan.specs.Fields.{is_letter}
@@ -21,7 +21,6 @@ use Rattle.wording.proofs.Numbers.{printed_says, printed_digits}
 use Rattle.wording.proofs.Speaking.{Fitting, front_one_line}
 use Rattle.amounts.specs.declared.Amount.{Amount}
 use Rattle.amounts.specs.declared.Kind.TheVariants.{ValueLine, FlowLine}
-use Rattle.amounts.specs.declared.Judged.TheVariants.{Says}
 use Rattle.amounts.specs.Lines.{value_from, value_of, flow_from, flow_of, kind_of, step_of, end_of, onwards, judge, amount_in, amounts_of}
 use Rattle.sharing.specs.Full.{is_pair, sum_where, pair_sum}
 
@@ -83,7 +82,7 @@ unfolding fields
 fields_last xs e = ap fields (sym (append-nil xs)) ∙ fields_front xs [] [] e refl
 
 -- What says a number has a byte.
-says_some : (field : List ℕ) (n : ℕ) → number_in field ≡ Value n → 1 ≤ length field
+says_some : (field : List ℕ) (n : ℕ) → number_in field ≡ Some n → 1 ≤ length field
 unfolding number_in number_form
 says_some [] n e = absurd (let z : ◌≡◌ {A = ℕ} 0 1 = cc in omega arith)
 says_some (b ∷ field) n e = omega arith
@@ -134,7 +133,7 @@ arc_amounts (t ∷ ts) (h ∷ hs) [] = []
 arc_amounts (t ∷ ts) (h ∷ hs) (f ∷ fs) = record { tail = t; head = h; flow = f } ∷ arc_amounts ts hs fs
 
 -- The lines of the arcs are of their form,
-pub judge_flows : (tails heads flow : List ℕ) (v place : ℕ) → Fitting tails → Fitting heads → Fitting flow → judge (lines (flow_lines tails heads flow)) (Value v) place ≡ Says v
+pub judge_flows : (tails heads flow : List ℕ) (v place : ℕ) → Fitting tails → Fitting heads → Fitting flow → judge (lines (flow_lines tails heads flow)) (Some v) place ≡ Ok v
 unfolding judge onwards step_of end_of flow_lines parts
 judge_flows [] heads flow v place ft fh ff = refl
 judge_flows (t ∷ ts) [] flow v place ft fh ff = refl

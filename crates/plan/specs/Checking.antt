@@ -1,5 +1,5 @@
 -- Document 02, CR 8: what checking a plan returns.
-use Rattle.std.specs.Prelude.{ℕ, ◌≤◌, ◌≡◌, List, leb, length, Ok, Err}
+use Rattle.std.specs.Prelude.{ℕ, ◌≤◌, ◌≡◌, List, leb, length, Result, Ok, Err}
 use Rattle.table.specs.Table.{Table}
 use Rattle.table.specs.Checks.{or_else, no_refusal, refused, Verdict}
 use Rattle.table.specs.Refusals.{number_of}
@@ -7,16 +7,15 @@ use Rattle.table.specs.declared.Name.TheVariants.{Solution}
 use Rattle.minimums.specs.BoundedTable.{BoundedTable}
 use Rattle.scan.specs.Parts.{lines}
 use Rattle.intake.specs.Verdict.{text_verdict}
-use Rattle.amounts.specs.declared.Judged.{Judged}
-use Rattle.amounts.specs.declared.Judged.TheVariants.{Says, Fault}
+use Rattle.scan.specs.declared.Fault.{Fault}
 use Rattle.amounts.specs.Lines.{judged, amounts_of}
 use Rattle.sharing.specs.Full.{Full}
 use Rattle.plan.specs.declared.Checked.{Checked}
 
 -- SOLUTION at the first line that is not of its form, or one past the last if there is no `s` line.
-unfoldable pub lines_verdict : Judged → Verdict
-lines_verdict (Says value) = no_refusal
-lines_verdict (Fault place) = refused Solution place
+unfoldable pub lines_verdict : Result ℕ Fault → Verdict
+lines_verdict (Ok value) = no_refusal
+lines_verdict (Err fault) = refused Solution fault.line
 
 -- The order: LONG, the table's own checks with BOUNDED, ROOM for a short side row, SOLUTION.
 unfoldable pub plan_verdict : BoundedTable → (text : List ℕ) (side : ℕ) → Verdict
@@ -34,10 +33,10 @@ pub record Flags (flag : ℕ) (P : Type 0) : Type 0 where
 
 -- The answer to a plan: a refusal returns its number and place; else 1 exactly where the plan is full for the value that the `s` line says, and 0 elsewhere.
 -- (A line at fault is refused, so nothing is said of one that is not.)
-unfoldable pub Answers : Verdict → Judged → Table → (text side : List ℕ) → Checked → Type 0
+unfoldable pub Answers : Verdict → Result ℕ Fault → Table → (text side : List ℕ) → Checked → Type 0
 Answers (Err why) said t text side r = r ≡ checked_with (number_of why.name) why.place 0
-Answers (Ok _) (Fault place) t text side r = ⊥
-Answers (Ok _) (Says value) t text side r = (r ≡ checked_with 0 0 r.full) × Flags r.full (Full t value (amounts_of (lines text)) side)
+Answers (Ok _) (Err fault) t text side r = ⊥
+Answers (Ok _) (Ok value) t text side r = (r ≡ checked_with 0 0 r.full) × Flags r.full (Full t value (amounts_of (lines text)) side)
 
 -- What checking promises.
 abbrev pub Checks : BoundedTable → (text side : List ℕ) → Checked → Type 0

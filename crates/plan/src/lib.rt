@@ -15,10 +15,10 @@ ghost use Rattle.amounts.specs.Lines.{amount_in, amounts_of, judged};
 ghost use Rattle.sharing.specs.Full.{Full};
 ghost use Rattle.sharing.specs.Test.{out_sum, into_sum, SumsFit, CutFits};
 ghost use Rattle.pairs.specs.Places.{Places, Takes, Zeros};
-ghost use Rattle.plan.specs.Checking.{checked_with, lines_verdict, Flags, Answers, Checks};
+ghost use Rattle.plan.specs.Checking.{checked_with, lines_verdict, Answers, Checks};
 ghost use Rattle.plan.specs.Rows.{Adds, TookAll, IsBelow, AtMost, Rows, HoldsAt, IsEven, IsKept, Decides};
 
-use amounts::{Judged, Kind};
+use amounts::Kind;
 use table::{LentTable, Name, Refusal};
 
 // What checking returns: a refusal's number and place, or 0 with 1 where the plan is full, else 0.
@@ -39,7 +39,7 @@ fn add_at(n: u32, i: u32, x: u32, row: &mut [u64])
 {
     if pairs::is_node(n, i) {
         let at = (i - 1) as usize;
-        row[at] = row[at] + rows::wide(x);
+        row[at] += u64::from(x);
     }
 }
 
@@ -67,10 +67,7 @@ fn take_kind(
     };
     add_at(n, x.tail, x.flow, out);
     add_at(n, x.head, x.flow, into);
-    if !fits {
-        return false;
-    }
-    pairs::take_pair(n, heads, first, next, x, room)
+    fits && pairs::take_pair(n, heads, first, next, x, room)
 }
 
 // Takes the amounts of all lines into the three rows, of which those by node hold zeros, and says whether they fitted.
@@ -130,13 +127,7 @@ fn take_text(
 fn is_even(i: u32, s: u32, t: u32, into: u64, out: u64) -> bool
     ensures { IsEven i s t into out result }
 {
-    if i == s {
-        return true;
-    }
-    if i == t {
-        return true;
-    }
-    into == out
+    i == s || i == t || into == out
 }
 
 // Does what goes into each inner node go out of it?
@@ -144,12 +135,11 @@ fn is_kept(n: u32, s: u32, t: u32, out: &[u64], into: &[u64]) -> bool
     requires { (n ≤ 512) × (length out.now ≡ 512) × (length into.now ≡ 512) }
     ensures { IsKept n s t out.now into.now result }
 {
-    let mut at: usize = 0;
-    while at < (n as usize) {
-        if !is_even(at as u32 + 1, s, t, into[at], out[at]) {
+    for i in 1..=n {
+        let at = i as usize - 1;
+        if !is_even(i, s, t, into[at], out[at]) {
             return false;
         }
-        at += 1;
     }
     true
 }
@@ -169,13 +159,11 @@ fn crossing(side: &[u8], tail: u32, head: u32, capacity: u32) -> u64
     requires { Node (length side.now) tail × Node (length side.now) head }
     ensures { result ≡ only (marked side.now tail && not (marked side.now head)) capacity }
 {
-    if !is_marked(side, tail) {
-        return 0;
+    if is_marked(side, tail) && !is_marked(side, head) {
+        u64::from(capacity)
+    } else {
+        0
     }
-    if is_marked(side, head) {
-        return 0;
-    }
-    rows::wide(capacity)
 }
 
 // The capacity of the marked cut.
@@ -184,15 +172,13 @@ fn cut_capacity(table: &LentTable, side: &[u8]) -> u64
     ensures { result ≡ leaving (network_of (table_in table.now)) (marked side.now) (at_place table.now.capacities.now) }
 {
     let mut total: u64 = 0;
-    let mut place: usize = 0;
-    while place < table.capacities.len() {
+    for place in 0..capacities.len() {
         total += crossing(
             side,
             table.tails[place],
             table.heads[place],
             table.capacities[place],
         );
-        place += 1;
     }
     total
 }
@@ -201,10 +187,7 @@ fn cut_capacity(table: &LentTable, side: &[u8]) -> u64
 fn is_net(out: u64, into: u64, value: u32) -> bool
     ensures { Decides result (out ≡ into + value) }
 {
-    if out < into {
-        return false;
-    }
-    out - into == rows::wide(value)
+    into <= out && out - into == u64::from(value)
 }
 
 // Do the sums of the text fit the table, and their net out of the source the value?
@@ -225,11 +208,8 @@ fn sums_fit(table: &LentTable, text: &[u8], value: u32) -> bool
     ) {
         return false;
     }
-    if !is_kept(table.nodes, table.source, table.sink, &out, &into) {
-        return false;
-    }
     let at = (table.source - 1) as usize;
-    is_net(out[at], into[at], value)
+    is_kept(table.nodes, table.source, table.sink, &out, &into) && is_net(out[at], into[at], value)
 }
 
 // Is the source marked and the sink not, and has the marked cut this capacity?
@@ -237,27 +217,17 @@ fn cut_fits(table: &LentTable, value: u32, side: &[u8]) -> bool
     requires { Accepted (table_in table.now) × (table.now.nodes ≤ length side.now) }
     ensures { Decides result (CutFits (table_in table.now) value side.now) }
 {
-    if !is_marked(side, table.source) {
-        return false;
-    }
-    if is_marked(side, table.sink) {
-        return false;
-    }
-    cut_capacity(table, side) == rows::wide(value)
+    is_marked(side, table.source)
+        && !is_marked(side, table.sink)
+        && cut_capacity(table, side) == u64::from(value)
 }
 
-// 1 where a plan is full, else 0.
-fn full_flag(table: &LentTable, text: &[u8], value: u32, side: &[u8]) -> u32
+// Is a plan full?
+fn is_full(table: &LentTable, text: &[u8], value: u32, side: &[u8]) -> bool
     requires { Accepted (table_in table.now) × (table.now.nodes ≤ length side.now) × (length text.now ≤ 1048576) }
-    ensures { Flags result (Full (table_in table.now) value (amounts_of (lines text.now)) side.now) }
+    ensures { Decides result (Full (table_in table.now) value (amounts_of (lines text.now)) side.now) }
 {
-    if !sums_fit(table, text, value) {
-        return 0;
-    }
-    if !cut_fits(table, value, side) {
-        return 0;
-    }
-    1
+    sums_fit(table, text, value) && cut_fits(table, value, side)
 }
 
 // ---- the call
@@ -281,11 +251,11 @@ fn check_text(table: &LentTable, text: &[u8], side: &[u8]) -> Checked
         Answers (lines_verdict said) said table text.now side.now result }
 {
     match amounts::judge_lines(text) {
-        Judged::Fault(place) => not_checked(Name::Solution, place),
-        Judged::Says(value) => Checked {
+        Err(fault) => not_checked(Name::Solution, fault.line),
+        Ok(value) => Checked {
             refusal: 0,
             place: 0,
-            full: full_flag(table, text, value, side),
+            full: u32::from(is_full(table, text, value, side)),
         },
     }
 }

@@ -4,10 +4,10 @@ use mathlib.Core.Path.{◌≡◌, sym, ◌∙◌}
 use mathlib.Core.Bool.{Bool}
 use mathlib.Core.List.{List}
 use lib.ListN.{length, drop}
+use Rattle.std.specs.Prelude.{Option}
 use Rattle.scan.specs.Parts.{up_to, begins_with, is_these, fields}
 use Rattle.scan.specs.Fields.{field_at, number_at, is_letter}
 use Rattle.scan.specs.Numbers.{number_in}
-use Rattle.scan.specs.declared.Number.{Number}
 
 -- Where a byte stands next.
 pub find_unique : (bytes : List ℕ) (sep from a b : ℕ) → a ≡ from + up_to sep (drop from bytes) → b ≡ from + up_to sep (drop from bytes) → a ≡ b
@@ -26,7 +26,7 @@ pub field_unique : (line : List ℕ) (k : ℕ) (a b : List ℕ) → a ≡ field_
 field_unique line k a b p q = p ∙ sym q
 
 -- the number there,
-pub number_at_unique : (line : List ℕ) (k : ℕ) (a b : Number) → a ≡ number_at line k → b ≡ number_at line k → a ≡ b
+pub number_at_unique : (line : List ℕ) (k : ℕ) (a b : Option ℕ) → a ≡ number_at line k → b ≡ number_at line k → a ≡ b
 number_at_unique line k a b p q = p ∙ sym q
 
 -- and whether it is a letter.
@@ -38,5 +38,5 @@ pub has_bytes_unique : (line : List ℕ) (k : ℕ) (these : List ℕ) (a b : Boo
 has_bytes_unique line k these a b p q = p ∙ sym q
 
 -- The number that a field says.
-pub read_number_unique : (field : List ℕ) (a b : Number) → a ≡ number_in field → b ≡ number_in field → a ≡ b
+pub read_number_unique : (field : List ℕ) (a b : Option ℕ) → a ≡ number_in field → b ≡ number_in field → a ≡ b
 read_number_unique field a b p q = p ∙ sym q

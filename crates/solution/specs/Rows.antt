@@ -1,8 +1,7 @@
 -- What the code asks of its rows, and what it finds in a text. Only contracts of private functions speak of it.
-use Rattle.std.specs.Prelude.{ℕ, ◌≤◌, ◌≡◌, List, length, take}
+use Rattle.std.specs.Prelude.{ℕ, ◌≤◌, ◌≡◌, List, length, take, Result, Ok, Err, ⊤}
 use Rattle.wording.specs.Lines.{Said, flows, nothing}
-use Rattle.solution.specs.declared.Lines.{Lines}
-use Rattle.solution.specs.declared.Lines.TheVariants.{All, Stop}
+use Rattle.scan.specs.declared.Fault.{Fault}
 
 -- At most 4,096 arcs, a head for each tail, and another row with a place for each.
 pub record ArcsWith (tails heads row : List ℕ) : Type 0 where
@@ -11,6 +10,6 @@ pub record ArcsWith (tails heads row : List ℕ) : Type 0 where
   pub room : length tails ≤ length row
 
 -- What was found of what the lines say: all m flows, in the first places of a row, or the line that no solution text has there.
-abbrev pub Finds : Said → Lines → (m : ℕ) (row : List ℕ) → Type 0
-Finds said All m row = said ≡ flows (take m row)
-Finds said (Stop line) m row = said ≡ nothing line
+abbrev pub Finds : Said → Result ⊤ Fault → (m : ℕ) (row : List ℕ) → Type 0
+Finds said (Ok all) m row = said ≡ flows (take m row)
+Finds said (Err fault) m row = said ≡ nothing fault.line

@@ -15,7 +15,7 @@ ghost use Rattle.solution.specs.Reading.{back_with, left_by, reading};
 ghost use Rattle.solution.specs.Reading.{left as leftRead};
 ghost use Rattle.solution.specs.Rows.{ArcsWith, Finds};
 
-use scan::Number;
+use scan::Fault;
 use table::{LentTable, Name, Refusal};
 
 // What writing returns: a refusal's number and place, or 0 with how many bytes were filled.
@@ -36,13 +36,6 @@ pub struct ReadBack {
     pub value: u64,
 }
 
-// What was found of the lines of the arcs: all of them, or the first that no solution text has there.
-#[derive(Clone, Copy, Debug, PartialEq, Eq)]
-pub enum Lines {
-    All,
-    Stop(u32),
-}
-
 // ---- writing
 
 // How many digits a number has.
@@ -52,7 +45,7 @@ fn digit_count(n: u64) -> usize
     let mut count: usize = 1;
     let mut left = n;
     while 10 <= left {
-        left = left / 10;
+        left /= 10;
         count += 1;
     }
     count
@@ -62,8 +55,8 @@ fn digit_count(n: u64) -> usize
 fn line_length(tail: u32, head: u32, flow: u32) -> usize
     ensures { (result ≡ length (line_of (flow_front tail head) flow)) × (result ≤ 65) }
 {
-    let ends = digit_count(rows::wide(tail)) + digit_count(rows::wide(head));
-    ends + digit_count(rows::wide(flow)) + 5
+    let ends = digit_count(u64::from(tail)) + digit_count(u64::from(head));
+    ends + digit_count(u64::from(flow)) + 5
 }
 
 // How many bytes the lines of the arcs have.
@@ -72,10 +65,8 @@ fn lines_length(tails: &[u32], heads: &[u32], flow: &[u32]) -> usize
     ensures { (result ≡ length (flow_lines tails.now heads.now flow.now)) × (result ≤ 266240) }
 {
     let mut length: usize = 0;
-    let mut place: usize = 0;
-    while place < tails.len() {
+    for place in 0..tails.len() {
         length += line_length(tails[place], heads[place], flow[place]);
-        place += 1;
     }
     length
 }
@@ -86,9 +77,9 @@ fn put_front(out: &mut [u8], at: usize, tail: u32, head: u32) -> usize
     ensures { Wrote out.old at (flow_front tail head) out.new result }
 {
     let ends = pen::put_bytes(out, at, b"f ");
-    let between = pen::put_number(out, ends, rows::wide(tail));
+    let between = pen::put_number(out, ends, u64::from(tail));
     let second = pen::put(out, between, b' ');
-    let behind = pen::put_number(out, second, rows::wide(head));
+    let behind = pen::put_number(out, second, u64::from(head));
     pen::put(out, behind, b' ')
 }
 
@@ -98,7 +89,7 @@ fn put_flow(out: &mut [u8], at: usize, tail: u32, head: u32, flow: u32) -> usize
     ensures { Wrote out.old at (line_of (flow_front tail head) flow) out.new result }
 {
     let number = put_front(out, at, tail, head);
-    let end = pen::put_number(out, number, rows::wide(flow));
+    let end = pen::put_number(out, number, u64::from(flow));
     pen::put(out, end, b'\n')
 }
 
@@ -108,10 +99,8 @@ fn put_flows(out: &mut [u8], at: usize, tails: &[u32], heads: &[u32], flow: &[u3
     ensures { Wrote out.old at (flow_lines tails.now heads.now flow.now) out.new result }
 {
     let mut end = at;
-    let mut place: usize = 0;
-    while place < tails.len() {
+    for place in 0..tails.len() {
         end = put_flow(out, end, tails[place], heads[place], flow[place]);
-        place += 1;
     }
     end
 }
@@ -121,12 +110,10 @@ fn first_above(capacities: &[u32], flow: &[u32]) -> Result<(), Refusal>
     requires { (length capacities.now ≤ 4096) × (length capacities.now ≤ length flow.now) }
     ensures { result ≡ first_above 0 capacities.now flow.now }
 {
-    let mut place: usize = 0;
-    while place < capacities.len() {
+    for place in 0..capacities.len() {
         if capacities[place] < flow[place] {
             return Err(Name::Solution.at(place as u32));
         }
-        place += 1;
     }
     Ok(())
 }
@@ -148,10 +135,8 @@ fn has_text_room(table: &LentTable, value: u64, flow: &[u32], text: usize) -> bo
     requires { ArcsWith table.now.tails.now table.now.heads.now table.now.capacities.now × (length table.now.capacities.now ≡ length table.now.tails.now) }
     ensures { result ≡ has_text_room (table_in table.now) value flow.now text }
 {
-    if flow.len() < table.capacities.len() {
-        return false;
-    }
-    digit_count(value) + 3 + lines_length(table.tails, table.heads, flow) <= text
+    table.capacities.len() <= flow.len()
+        && digit_count(value) + 3 + lines_length(table.tails, table.heads, flow) <= text
 }
 
 // The first refusal of writing into a text row of this length, if any.
@@ -195,23 +180,18 @@ pub fn write(bounded: &LentBounded, value: u64, flow: &[u32], text: &mut [u8]) -
 // ---- reading back
 
 // The number that a line says behind these bytes, if it begins with them and its number is not above `most`.
-fn number_behind(line: &[u8], front: &[u8], most: u32) -> Number
+fn number_behind(line: &[u8], front: &[u8], most: u32) -> Option<u32>
     ensures { result ≡ number_behind front.now most line.now }
 {
     if !scan::begins_with(line, front) {
-        return Number::NoNumber;
+        return None;
     }
-    let Number::Value(number) = scan::read_number(&line[front.len()..]) else {
-        return Number::NoNumber;
-    };
-    if most < number {
-        return Number::NoNumber;
-    }
-    Number::Value(number)
+    let number = scan::read_number(&line[front.len()..])?;
+    if number <= most { Some(number) } else { None }
 }
 
 // The flow that the line of an arc says, if it is one of that arc within the capacity.
-fn flow_said(line: &[u8], tail: u32, head: u32, capacity: u32) -> Number
+fn flow_said(line: &[u8], tail: u32, head: u32, capacity: u32) -> Option<u32>
     ensures { result ≡ number_behind (flow_front tail head) capacity line.now }
 {
     let mut front = [0u8; 48];
@@ -227,35 +207,33 @@ fn read_flows(
     heads: &[u32],
     capacities: &[u32],
     row: &mut [u32],
-) -> Lines
+) -> Result<(), Fault>
     requires { (from ≤ length text.now) × ArcsWith tails.now heads.now row.old × (length capacities.now ≡ length tails.now) }
     ensures { let said = flows_said tails.now heads.now capacities.now 2 (drop from text.now) in
         Finds said result (length tails.now) row.new }
 {
     let mut at = from;
-    let mut place: usize = 0;
-    while place < tails.len() {
+    for place in 0..tails.len() {
+        let line = place as u32 + 2;
         let end = scan::find(text, b'\n', at);
         if text.len() <= end {
-            return Lines::Stop(place as u32 + 2);
+            return Err(Fault { line });
         }
-        let said = flow_said(
+        row[place] = flow_said(
             &text[at..end],
             tails[place],
             heads[place],
             capacities[place],
-        );
-        let Number::Value(flow) = said else {
-            return Lines::Stop(place as u32 + 2);
-        };
-        row[place] = flow;
-        place += 1;
+        )
+        .ok_or(Fault { line })?;
         at = end + 1;
     }
     if at < text.len() {
-        return Lines::Stop(place as u32 + 2);
+        return Err(Fault {
+            line: tails.len() as u32 + 2,
+        });
     }
-    Lines::All
+    Ok(())
 }
 
 // What is returned of a refusal.
@@ -285,14 +263,14 @@ fn read_row(
 {
     let mut row = [0u32; 4096];
     match read_flows(text, from, tails, heads, capacities, &mut row) {
-        Lines::Stop(line) => not_read(Name::Solution, line),
-        Lines::All => {
+        Err(fault) => not_read(Name::Solution, fault.line),
+        Ok(()) => {
             let m = tails.len();
             rows::store(flow, 0, &row[..m]);
             ReadBack {
                 refusal: 0,
                 place: 0,
-                value: rows::wide(value),
+                value: u64::from(value),
             }
         }
     }
@@ -314,7 +292,7 @@ fn read_text(
         return not_read(Name::Solution, 1);
     }
     let said = number_behind(&text[..end], b"s ", 4096000000);
-    let Number::Value(value) = said else {
+    let Some(value) = said else {
         return not_read(Name::Solution, 1);
     };
     read_row(text, end + 1, tails, heads, capacities, value, flow)

@@ -1,7 +1,6 @@
 -- A worked example of the sums, by computation.
 use Rattle.std.specs.Prelude.{◌≡◌, refl, ℕ}
 use Rattle.solver.specs.declared.Answer.{Answer}
-use Rattle.tally.specs.declared.Tally.{Tally}
 use Rattle.tally.specs.Sums.{no_tally, counted, tallied}
 
 -- An answer with this refusal and value.

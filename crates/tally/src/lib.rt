@@ -19,10 +19,7 @@ pub struct Tally {
 fn is_lower(tally: Tally, value: u64) -> bool
     ensures { result ≡ is_lower tally value }
 {
-    if tally.day == 0 {
-        return true;
-    }
-    value < tally.least
+    tally.day == 0 || value < tally.least
 }
 
 // One solved day more.
@@ -30,21 +27,19 @@ fn count_solved(tally: Tally, day: u32, value: u64) -> Tally
     requires { (tally.solved < 31) × (tally.total + value < 2 ^ 64) }
     ensures { result ≡ counted tally day value }
 {
-    let solved = tally.solved + 1;
-    let total = tally.total + value;
+    let counted = Tally {
+        solved: tally.solved + 1,
+        total: tally.total + value,
+        ..tally
+    };
     if is_lower(tally, value) {
-        return Tally {
-            solved,
-            total,
+        Tally {
             day,
             least: value,
-        };
-    }
-    Tally {
-        solved,
-        total,
-        day: tally.day,
-        least: tally.least,
+            ..counted
+        }
+    } else {
+        counted
     }
 }
 
@@ -54,7 +49,8 @@ pub fn count_day(tally: Tally, day: u32, a: Answer) -> Tally
     ensures { result ≡ tallied tally day a }
 {
     if a.refusal == 0 {
-        return count_solved(tally, day, a.value);
+        count_solved(tally, day, a.value)
+    } else {
+        tally
     }
-    tally
 }

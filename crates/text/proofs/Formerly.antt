@@ -9,12 +9,11 @@ use native.Mathlib.Omega.{arith}
 use lib.Dec.{leb, ltb, eqb, lit≤}
 use lib.ListN.{length, get_or, drop}
 use borrow.Author.Tests.{leb-true, eqb-true, ne_eqb}
+use Rattle.std.specs.Prelude.{Option, Some, None}
 use Rattle.rows.proofs.Sums.{both_true}
 use Rattle.minimums.specs.declared.Arc.{Arc}
 use Rattle.table.specs.declared.Name.TheVariants.{Long}
 use Rattle.table.specs.Ascii.{bytes}
-use Rattle.scan.specs.declared.Number.{Number}
-use Rattle.scan.specs.declared.Number.TheVariants.{Value, NoNumber}
 use Rattle.scan.specs.Parts.{in_front, parts, lines, begins_with, is_these, is_separator, behind, fields}
 use Rattle.scan.specs.Numbers.{is_digit, all_digits, leading_zero, number_form, number_in}
 use Rattle.scan.specs.Fields.{is_letter}
@@ -64,12 +63,12 @@ digits_plain [] e = tt
 digits_plain (b ∷ f) e = let (first, others) = both_true (is_digit b) _ e in (digit_plain b first, digits_plain f others)
 
 -- A field that says a number has its form.
-has_form : (t : Bool) (x v : ℕ) → cond t (Value x) NoNumber ≡ Value v → t ≡ true
+has_form : (t : Bool) (x v : ℕ) → cond t (Some x) None ≡ Some v → t ≡ true
 has_form true x v e = refl
 has_form false x v e = absurd (let z : ◌≡◌ {A = ℕ} 0 1 = cc in omega arith)
 
 -- A number is solid.
-number_solid : (f : List ℕ) (v : ℕ) → number_in f ≡ Value v → Solid f
+number_solid : (f : List ℕ) (v : ℕ) → number_in f ≡ Some v → Solid f
 unfolding number_in number_form
 number_solid f v e =
     let (form, fits) = both_true (number_form f) _ (has_form _ _ v e) in
@@ -116,18 +115,18 @@ same_fields (b ∷ rest) h = same_more b (fields rest) (former_fields rest) (eqb
 
 -- Behind two solid fields and its number, a former n line has a letter as its third, or is not of its form.
 end_letter : (x y z : List ℕ) (id : ℕ) (s t : Bool) → is_letter (code "s") z ≡ s → is_letter (code "t") z ≡ t → Solid x → Solid y
-    → (end_from s t (Value id) ≡ Other) ⊎ Solids (x ∷ y ∷ z ∷ [])
+    → (end_from s t (Some id) ≡ Other) ⊎ Solids (x ∷ y ∷ z ∷ [])
 unfolding end_from is_separator
 end_letter x y z id true t e f first second = inr (first, (second, (letter_solid (code "s") z refl e, tt)))
 end_letter x y z id false true e f first second = inr (first, (second, (letter_solid (code "t") z refl f, tt)))
 end_letter x y z id false false e f first second = inl refl
 
 -- Behind a solid field, a former n line has a number and a letter, or is not of its form.
-end_number : (x y z : List ℕ) (a : Number) → number_in y ≡ a → Solid x
+end_number : (x y z : List ℕ) (a : Option ℕ) → number_in y ≡ a → Solid x
     → (end_from (is_letter (code "s") z) (is_letter (code "t") z) a ≡ Other) ⊎ Solids (x ∷ y ∷ z ∷ [])
 unfolding end_from
-end_number x y z (Value id) e first = end_letter x y z id (is_letter (code "s") z) (is_letter (code "t") z) refl refl first (number_solid y id e)
-end_number x y z NoNumber e first = inl refl
+end_number x y z (Some id) e first = end_letter x y z id (is_letter (code "s") z) (is_letter (code "t") z) refl refl first (number_solid y id e)
+end_number x y z None e first = inl refl
 
 -- The fields of a former n line are solid, or it is not of its form.
 end_solid : (fs : List (List ℕ)) → is_letter (code "n") (get_or fs 0 []) ≡ true → (end_of fs ≡ Other) ⊎ Solids fs
@@ -139,13 +138,13 @@ end_solid (x ∷ (y ∷ (z ∷ []))) h = end_number x y z (number_in y) refl (le
 end_solid (x ∷ (y ∷ (z ∷ (w ∷ more)))) h = inl (rw (ne_eqb (length (x ∷ y ∷ z ∷ w ∷ more)) 3 (λ e. omega arith)) refl)
 
 -- Behind a solid field, a former `a` line has three numbers, or is not of its form.
-arc_number : (x y z w : List ℕ) (a b d : Number) → number_in y ≡ a → number_in z ≡ b → number_in w ≡ d → Solid x
-    → (arc_from (Value 0) a b d ≡ Other) ⊎ Solids (x ∷ y ∷ z ∷ w ∷ [])
+arc_number : (x y z w : List ℕ) (a b d : Option ℕ) → number_in y ≡ a → number_in z ≡ b → number_in w ≡ d → Solid x
+    → (arc_from (Some 0) a b d ≡ Other) ⊎ Solids (x ∷ y ∷ z ∷ w ∷ [])
 unfolding arc_from
-arc_number x y z w (Value t) (Value h) (Value c) e f g first = inr (first, (number_solid y t e, (number_solid z h f, (number_solid w c g, tt))))
-arc_number x y z w (Value t) (Value h) NoNumber e f g first = inl refl
-arc_number x y z w (Value t) NoNumber d e f g first = inl refl
-arc_number x y z w NoNumber b d e f g first = inl refl
+arc_number x y z w (Some t) (Some h) (Some c) e f g first = inr (first, (number_solid y t e, (number_solid z h f, (number_solid w c g, tt))))
+arc_number x y z w (Some t) (Some h) None e f g first = inl refl
+arc_number x y z w (Some t) None d e f g first = inl refl
+arc_number x y z w None b d e f g first = inl refl
 
 -- The fields of a former `a` line are solid, and it is one still, of minimum 0; or it is not of its form.
 arc_solid : (fs : List (List ℕ)) → is_letter (code "a") (get_or fs 0 []) ≡ true → (former_arc fs ≡ Other) ⊎ (Solids fs × (arc_of fs ≡ former_arc fs))
@@ -159,11 +158,11 @@ arc_solid (x ∷ (y ∷ (z ∷ (w ∷ [])))) h =
 arc_solid (x ∷ (y ∷ (z ∷ (w ∷ (v ∷ more))))) h = inl (rw (ne_eqb (length (x ∷ y ∷ z ∷ w ∷ v ∷ more)) 4 (λ e. omega arith)) refl)
 
 -- Behind its fixed bytes, a former p line has two numbers, or is not of its form.
-problem_number : (x y : List ℕ) (a b : Number) → number_in x ≡ a → number_in y ≡ b → (problem_from a b ≡ Other) ⊎ Solids (x ∷ y ∷ [])
+problem_number : (x y : List ℕ) (a b : Option ℕ) → number_in x ≡ a → number_in y ≡ b → (problem_from a b ≡ Other) ⊎ Solids (x ∷ y ∷ [])
 unfolding problem_from
-problem_number x y (Value n) (Value m) e f = inr (number_solid x n e, (number_solid y m f, tt))
-problem_number x y (Value n) NoNumber e f = inl refl
-problem_number x y NoNumber b e f = inl refl
+problem_number x y (Some n) (Some m) e f = inr (number_solid x n e, (number_solid y m f, tt))
+problem_number x y (Some n) None e f = inl refl
+problem_number x y None b e f = inl refl
 
 -- The fields of a former p line behind its fixed bytes are solid, and make it one still; or it is not of its form.
 problem_solid : (fs : List (List ℕ)) → (former_problem fs ≡ Other) ⊎ (Solids fs × (kind_from (bytes "p" ∷ bytes "max" ∷ fs) ≡ former_problem fs))

@@ -1,12 +1,11 @@
 -- The former rule of document 01, before document 02's requests 2 and 11. It is kept for one theorem alone, `former_same`: every text that it accepted gives the same table.
-use Rattle.std.specs.Prelude.{ℕ, cond, List, [], ◌∷◌, ◌++◌, ltb, eqb, length, get_or, drop}
+use Rattle.std.specs.Prelude.{ℕ, cond, List, [], ◌∷◌, ◌++◌, ltb, eqb, length, get_or, drop, Some}
 use Prim.Native.Char.{code}
 use Rattle.minimums.specs.declared.Arc.{Arc}
 use Rattle.table.specs.declared.Name.TheVariants.{Long}
 use Rattle.table.specs.Ascii.{bytes}
 use Rattle.minimums.specs.BoundedTable.{record_table}
 use Rattle.minimums.specs.Checks.{bounded_check}
-use Rattle.scan.specs.declared.Number.TheVariants.{Value}
 use Rattle.scan.specs.Parts.{parts, lines, begins_with}
 use Rattle.scan.specs.Numbers.{number_in}
 use Rattle.scan.specs.Fields.{is_letter}
@@ -30,7 +29,7 @@ former_problem fs = cond (eqb (length fs) 2) (problem_from (number_in (get_or fs
 
 -- An `a` line had three numbers, and no minimum.
 unfoldable pub former_arc : (fs : List (List ℕ)) → Kind
-former_arc fs = cond (eqb (length fs) 4) (arc_from (Value 0) (number_in (get_or fs 1 [])) (number_in (get_or fs 2 [])) (number_in (get_or fs 3 []))) Other
+former_arc fs = cond (eqb (length fs) 4) (arc_from (Some 0) (number_in (get_or fs 1 [])) (number_in (get_or fs 2 [])) (number_in (get_or fs 3 []))) Other
 
 -- What a line was; the p line began with the fixed bytes `p max `.
 unfoldable pub former_kind : List ℕ → Kind

@@ -8,7 +8,7 @@ use native.Mathlib.Omega.{arith}
 use lib.ListN.{length, get_or, set, take, drop, length-drop, drop_of_length-le}
 use lib.Seq.{drop-cons, take-suc-set, drop-drop}
 use borrow.Author.Tests.{lt-ltb, le-ltb}
-use Rattle.scan.specs.declared.Number.TheVariants.{Value, NoNumber}
+use Rattle.std.specs.Prelude.{Some, None}
 use Rattle.scan.specs.Parts.{LF, up_to, begins_with}
 use Rattle.scan.specs.Numbers.{number_in}
 use Rattle.wording.specs.Text.{flow_front}
@@ -19,22 +19,22 @@ use Rattle.wording.specs.Lines.{Said, flows, nothing, say_first, say_next, flows
 -- What a line says, by the tests of the code.
 module _ (front line : List ℕ) (most : ℕ) where
   -- It begins otherwise.
-  pub behind_other : begins_with front line ≡ false → number_behind front most line ≡ NoNumber
+  pub behind_other : begins_with front line ≡ false → number_behind front most line ≡ None
   unfolding number_behind
   behind_other e = rw e refl
 
   -- What stands behind is no number,
-  pub behind_none : begins_with front line ≡ true → number_in (drop (length front) line) ≡ NoNumber → number_behind front most line ≡ NoNumber
+  pub behind_none : begins_with front line ≡ true → number_in (drop (length front) line) ≡ None → number_behind front most line ≡ None
   unfolding number_behind not_above
   behind_none e f = rw (e, f) refl
 
   -- or one that is too large,
-  pub behind_above : (x : ℕ) → begins_with front line ≡ true → number_in (drop (length front) line) ≡ Value x → most < x → number_behind front most line ≡ NoNumber
+  pub behind_above : (x : ℕ) → begins_with front line ≡ true → number_in (drop (length front) line) ≡ Some x → most < x → number_behind front most line ≡ None
   unfolding number_behind not_above
   behind_above x e f h = rw (e, f, lt-ltb most x h) refl
 
   -- or else the number.
-  pub behind_value : (x : ℕ) → begins_with front line ≡ true → number_in (drop (length front) line) ≡ Value x → x ≤ most → number_behind front most line ≡ Value x
+  pub behind_value : (x : ℕ) → begins_with front line ≡ true → number_in (drop (length front) line) ≡ Some x → x ≤ most → number_behind front most line ≡ Some x
   unfolding number_behind not_above
   behind_value x e f h = rw (e, f, le-ltb most x h) refl
 
@@ -49,7 +49,7 @@ module _ (text : List ℕ) (at end : ℕ) (found : end ≡ at + up_to LF (drop a
       rw (lt-ltb (up_to LF (drop at text)) (length (drop at text)) (rw length-drop (omega arith)), n) refl
 
   -- or it has none;
-  pub number_open : (front : List ℕ) (most : ℕ) → length text ≤ end → at ≤ length text → first_number front most (drop at text) ≡ NoNumber
+  pub number_open : (front : List ℕ) (most : ℕ) → length text ≤ end → at ≤ length text → first_number front most (drop at text) ≡ None
   unfolding first_number
   number_open front most h a = rw (le-ltb (up_to LF (drop at text)) (length (drop at text)) (rw length-drop (omega arith))) refl
 
@@ -72,12 +72,12 @@ module _ (tails heads capacities row : List ℕ) (k line : ℕ) (text : List ℕ
   from_here = flows_said (drop k tails) (drop k heads) (drop k capacities) line (drop at text)
 
   -- The line there is not one of the arc at k,
-  pub say_stop : first_number (flow_front (get_or tails k 0) (get_or heads k 0)) (get_or capacities k 0) (drop at text) ≡ NoNumber → say_first (take k row) from_here ≡ nothing line
+  pub say_stop : first_number (flow_front (get_or tails k 0) (get_or heads k 0)) (get_or capacities k 0) (drop at text) ≡ None → say_first (take k row) from_here ≡ nothing line
   unfolding flows_said say_next say_first
   say_stop e = rw (drop-cons tails k 0 a, drop-cons heads k 0 b, drop-cons capacities k 0 d, e) refl
 
   -- or it says its flow, which goes into the row.
-  pub say_on : (flow : ℕ) → k < length row → first_number (flow_front (get_or tails k 0) (get_or heads k 0)) (get_or capacities k 0) (drop at text) ≡ Value flow
+  pub say_on : (flow : ℕ) → k < length row → first_number (flow_front (get_or tails k 0) (get_or heads k 0)) (get_or capacities k 0) (drop at text) ≡ Some flow
       → say_first (take k row) from_here ≡ say_first (take (k + 1) (set row k flow)) (flows_said (drop (k + 1) tails) (drop (k + 1) heads) (drop (k + 1) capacities) (line + 1) (drop (end + 1) text))
   unfolding flows_said say_next
   say_on flow r e =

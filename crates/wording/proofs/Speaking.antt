@@ -8,12 +8,11 @@ use lib.Dec.{ltb}
 use lib.ListN.{length, get_or, take, drop, length-append}
 use lib.Seq.{take_at, drop_at}
 use borrow.Author.Tests.{lt-ltb, ltb-true, ltb-false}
+use Rattle.std.specs.Prelude.{Option, Some, None}
 use Rattle.rows.proofs.Sums.{by_test}
 use Rattle.table.specs.Ascii.{bytes}
 use Rattle.table.specs.Table.{Table, arcs}
 use Rattle.table.specs.Accepted.{Accepted}
-use Rattle.scan.specs.declared.Number.{Number}
-use Rattle.scan.specs.declared.Number.TheVariants.{Value, NoNumber}
 use Rattle.scan.specs.Parts.{LF, run, up_to, begins_with}
 use Rattle.scan.specs.Numbers.{number_in}
 use Rattle.pen.specs.Printed.{printed}
@@ -61,7 +60,7 @@ module _ (front : List ℕ) (one_line : Without LF front) (number : ℕ) (fits :
       rw line_end (lt-ltb (length line) (length (line_of front number ++ rest)) long)
 
   -- and it says the number.
-  pub line_says : (most : ℕ) → number ≤ most → first_number front most (line_of front number ++ rest) ≡ Value number
+  pub line_says : (most : ℕ) → number ≤ most → first_number front most (line_of front number ++ rest) ≡ Some number
   unfolding first_number
   line_says most h =
       let line = front ++ printed number in
@@ -69,33 +68,33 @@ module _ (front : List ℕ) (one_line : Without LF front) (number : ℕ) (fits :
       rw (line_ended, line_first) (behind_value front line most number (begins_front front (printed number)) (ap number_in behind ∙ printed_says number fits) h)
 
 -- A number that is not above `most`, of a number.
-not_above_lem : (most : ℕ) (found : Number) (x : ℕ) → not_above most found ≡ Value x → (found ≡ Value x) × (x ≤ most)
+not_above_lem : (most : ℕ) (found : Option ℕ) (x : ℕ) → not_above most found ≡ Some x → (found ≡ Some x) × (x ≤ most)
 unfolding not_above
-not_above_lem most NoNumber x e = absurd (let z : ◌≡◌ {A = ℕ} 0 1 = cc in omega arith)
-not_above_lem most (Value y) x e = by_test (ltb most y)
+not_above_lem most None x e = absurd (let z : ◌≡◌ {A = ℕ} 0 1 = cc in omega arith)
+not_above_lem most (Some y) x e = by_test (ltb most y)
     (λ h. absurd (let z : ◌≡◌ {A = ℕ} 0 1 = cc in omega arith))
-    (λ h. let p : Value y ≡ Value x = sym (ap (λ (t : Bool). cond t NoNumber (Value y)) h) ∙ e in
+    (λ h. let p : Some y ≡ Some x = sym (ap (λ (t : Bool). cond t None (Some y)) h) ∙ e in
     let same : y ≡ x = cc in
     (p, omega (arith, ltb-false most y h)))
 
 -- What a line says, it is.
-behind_is : (front : List ℕ) (most : ℕ) (line : List ℕ) (x : ℕ) → number_behind front most line ≡ Value x → (line ≡ front ++ printed x) × (x ≤ most)
+behind_is : (front : List ℕ) (most : ℕ) (line : List ℕ) (x : ℕ) → number_behind front most line ≡ Some x → (line ≡ front ++ printed x) × (x ≤ most)
 unfolding number_behind
 behind_is front most line x e = by_test (begins_with front line)
-    (λ b. let p : not_above most (number_in (drop (length front) line)) ≡ Value x = sym (ap (λ (t : Bool). cond t (not_above most (number_in (drop (length front) line))) NoNumber) b) ∙ e in
+    (λ b. let p : not_above most (number_in (drop (length front) line)) ≡ Some x = sym (ap (λ (t : Bool). cond t (not_above most (number_in (drop (length front) line))) None) b) ∙ e in
     let (said, h) = not_above_lem most _ x p in
     (begins_split front line b ∙ ap (λ (l : List ℕ). front ++ l) (says_printed _ x said).0, h))
-    (λ b. absurd (let p : NoNumber ≡ Value x = sym (ap (λ (t : Bool). cond t (not_above most (number_in (drop (length front) line))) NoNumber) b) ∙ e in
+    (λ b. absurd (let p : None ≡ Some x = sym (ap (λ (t : Bool). cond t (not_above most (number_in (drop (length front) line))) None) b) ∙ e in
     let z : ◌≡◌ {A = ℕ} 0 1 = cc in omega arith))
 
 -- Bytes whose first line says a number begin with that line.
-pub says_line : (front : List ℕ) (most : ℕ) (rest : List ℕ) (x : ℕ) → first_number front most rest ≡ Value x → (rest ≡ line_of front x ++ behind_line rest) × (x ≤ most)
+pub says_line : (front : List ℕ) (most : ℕ) (rest : List ℕ) (x : ℕ) → first_number front most rest ≡ Some x → (rest ≡ line_of front x ++ behind_line rest) × (x ≤ most)
 unfolding first_number
 says_line front most rest x e = by_test (is_ended rest)
-    (λ b. let p : number_behind front most (first_line rest) ≡ Value x = sym (ap (λ (t : Bool). cond t (number_behind front most (first_line rest)) NoNumber) b) ∙ e in
+    (λ b. let p : number_behind front most (first_line rest) ≡ Some x = sym (ap (λ (t : Bool). cond t (number_behind front most (first_line rest)) None) b) ∙ e in
     let (line, h) = behind_is front most (first_line rest) x p in
     (up_to_split LF rest (ltb-true _ _ b) ∙ ap (λ (l : List ℕ). l ++ (LF ∷ behind_line rest)) line ∙ sym (line_parts front x (behind_line rest)), h))
-    (λ b. absurd (let p : NoNumber ≡ Value x = sym (ap (λ (t : Bool). cond t (number_behind front most (first_line rest)) NoNumber) b) ∙ e in
+    (λ b. absurd (let p : None ≡ Some x = sym (ap (λ (t : Bool). cond t (number_behind front most (first_line rest)) None) b) ∙ e in
     let z : ◌≡◌ {A = ℕ} 0 1 = cc in omega arith))
 
 -- ---- the lines of the arcs
@@ -117,7 +116,7 @@ abbrev pub Fitting : List ℕ → Type 0
 Fitting row = (k : ℕ) → k < length row → get_or row k 0 ≤ 4294967295
 
 -- A flow in front of flows.
-said_first : (f : ℕ) (fs : List ℕ) (line : ℕ) → say_next (Value f) line (flows fs) ≡ flows (f ∷ fs)
+said_first : (f : ℕ) (fs : List ℕ) (line : ℕ) → say_next (Some f) line (flows fs) ≡ flows (f ∷ fs)
 unfolding say_next say_first
 said_first f fs line = refl
 
@@ -149,11 +148,11 @@ record Spoken (tails heads capacities rest row : List ℕ) : Type 0 where
   pub is : rest ≡ flow_lines tails heads row
 
 -- The next line's flow in front of the others.
-next_is : (found : Number) (line : ℕ) (said : Said) (row : List ℕ) → say_next found line said ≡ flows row → (f : ℕ) × (fs : List ℕ) × (found ≡ Value f) × (said ≡ flows fs) × (row ≡ f ∷ fs)
+next_is : (found : Option ℕ) (line : ℕ) (said : Said) (row : List ℕ) → say_next found line said ≡ flows row → (f : ℕ) × (fs : List ℕ) × (found ≡ Some f) × (said ≡ flows fs) × (row ≡ f ∷ fs)
 unfolding say_next say_first
-next_is NoNumber line said row e = absurd (let z : ◌≡◌ {A = ℕ} 0 1 = cc in omega arith)
-next_is (Value f) line (nothing other) row e = absurd (let z : ◌≡◌ {A = ℕ} 0 1 = cc in omega arith)
-next_is (Value f) line (flows fs) row e = let same : f ∷ fs ≡ row = cc in (f, fs, refl, refl, sym same)
+next_is None line said row e = absurd (let z : ◌≡◌ {A = ℕ} 0 1 = cc in omega arith)
+next_is (Some f) line (nothing other) row e = absurd (let z : ◌≡◌ {A = ℕ} 0 1 = cc in omega arith)
+next_is (Some f) line (flows fs) row e = let same : f ∷ fs ≡ row = cc in (f, fs, refl, refl, sym same)
 
 -- No bytes are left.
 none_left : (rest : List ℕ) (line : ℕ) (row : List ℕ) → cond (ltb 0 (length rest)) (nothing line) (flows []) ≡ flows row → (rest ≡ []) × (row ≡ [])
@@ -186,14 +185,14 @@ says_lines (t ∷ ts) (h ∷ hs) (c ∷ cs) rest line row a b e =
 -- ---- the whole text
 
 -- A text that says a value and flows has the value's line, and its lines of arcs say the flows.
-words_are : (found : Number) (said : Said) (value : ℕ) (row : List ℕ) → words_from found said ≡ words value row → (found ≡ Value value) × (said ≡ flows row)
+words_are : (found : Option ℕ) (said : Said) (value : ℕ) (row : List ℕ) → words_from found said ≡ words value row → (found ≡ Some value) × (said ≡ flows row)
 unfolding words_from words_of
-words_are NoNumber said value row e = absurd (let z : ◌≡◌ {A = ℕ} 0 1 = cc in omega arith)
-words_are (Value x) (nothing line) value row e = absurd (let z : ◌≡◌ {A = ℕ} 0 1 = cc in omega arith)
-words_are (Value x) (flows fs) value row e =
+words_are None said value row e = absurd (let z : ◌≡◌ {A = ℕ} 0 1 = cc in omega arith)
+words_are (Some x) (nothing line) value row e = absurd (let z : ◌≡◌ {A = ℕ} 0 1 = cc in omega arith)
+words_are (Some x) (flows fs) value row e =
     let same : x ≡ value = cc in
     let row_same : fs ≡ row = cc in
-    (ap Value same, ap flows row_same)
+    (ap Some same, ap flows row_same)
 
 -- The rows of an accepted table fit fields.
 pub ends_fit : (t : Table) → Accepted t → Fitting t.tails × Fitting t.heads × Fitting t.capacities

@@ -7,11 +7,10 @@ use native.Mathlib.Omega.{arith}
 use lib.Dec.{ltb}
 use lib.ListN.{length, replicate, length-replicate, get_or-replicate}
 use borrow.Author.Tests.{ltb-true, ltb-false}
+use Rattle.std.specs.Prelude.{Option, Some, None}
 use Rattle.rows.proofs.Sums.{by_test}
 use Rattle.table.specs.Table.{Table, arcs}
 use Rattle.table.specs.Accepted.{Accepted}
-use Rattle.scan.specs.declared.Number.{Number}
-use Rattle.scan.specs.declared.Number.TheVariants.{Value, NoNumber}
 use Rattle.scan.specs.Parts.{LF, run, up_to}
 use Rattle.wording.specs.Text.{line_of, value_front, flow_front, flow_lines, solution_text, most_value, Within}
 use Rattle.wording.specs.Lines.{first_line, behind_line, is_ended, number_behind, first_number}
@@ -30,7 +29,7 @@ same_number front most text other e f g = rw (e, f) (ap (number_behind front mos
 module _ (front : List ℕ) (one_line : Without LF front) (number : ℕ) (fits : number ≤ 4294967295) (rest : List ℕ) where
   -- What has its first line in common with a line that says a number says it.
   shared_says : (most count : ℕ) (text : List ℕ) → number ≤ most → Shares (suc count) text (line_of front number ++ rest)
-      → first_number front most text ≡ Value number
+      → first_number front most text ≡ Some number
   unfolding Shares
   shared_says most count text h (e, f, g, more) =
       same_number front most text (line_of front number ++ rest) e f g ∙ line_says front one_line number fits rest most h
@@ -97,20 +96,20 @@ more_bytes heads capacities rest line k e = go (ltb 0 (length rest)) e
         }
 
 -- Where the next line says a flow, the further ones stop.
-further : (flow line k : ℕ) (said : Said) → say_next (Value flow) line said ≡ nothing k → said ≡ nothing k
+further : (flow line k : ℕ) (said : Said) → say_next (Some flow) line said ≡ nothing k → said ≡ nothing k
 unfolding say_next say_first
 further flow line k (flows row) e = absurd (let z : ◌≡◌ {A = ℕ} 0 1 = cc in omega arith)
 further flow line k (nothing other) e = e
 
 -- Where it says none, they stop at it.
-stops_here : (line k : ℕ) (said : Said) → say_next NoNumber line said ≡ nothing k → line ≡ k
+stops_here : (line k : ℕ) (said : Said) → say_next None line said ≡ nothing k → line ≡ k
 unfolding say_next
 stops_here line k said e = cc
 
 module _ (t h c : ℕ) (ts hs cs rest : List ℕ) (line k : ℕ) (one_line : Without LF (flow_front t h)) (fits : c ≤ 4294967295)
     (heads_long : length hs ≡ length ts) (capacities_long : length cs ≡ length ts) where
   -- The first line says no flow.
-  stopped_here : first_number (flow_front t h) c rest ≡ NoNumber → line ≡ k → Stopped (t ∷ ts) (h ∷ hs) (c ∷ cs) rest line k
+  stopped_here : first_number (flow_front t h) c rest ≡ None → line ≡ k → Stopped (t ∷ ts) (h ∷ hs) (c ∷ cs) rest line k
   unfolding flow_lines
   stopped_here none same =
       record {
@@ -132,7 +131,7 @@ module _ (t h c : ℕ) (ts hs cs rest : List ℕ) (line k : ℕ) (one_line : Wit
           omega arith
 
   -- It says one, and the further lines stop.
-  stopped_further : (f : ℕ) → first_number (flow_front t h) c rest ≡ Value f → Stopped ts hs cs (behind_line rest) (suc line) k
+  stopped_further : (f : ℕ) → first_number (flow_front t h) c rest ≡ Some f → Stopped ts hs cs (behind_line rest) (suc line) k
       → Stopped (t ∷ ts) (h ∷ hs) (c ∷ cs) rest line k
   unfolding flow_lines
   stopped_further f found s =
@@ -173,12 +172,12 @@ stopped_lines (t ∷ ts) (h ∷ hs) (c ∷ cs) rest line k a b ft fh fc e =
   where
     go : Without LF (flow_front t h) → c ≤ 4294967295
         → (flows_said ts hs cs (suc line) (behind_line rest) ≡ nothing k → Stopped ts hs cs (behind_line rest) (suc line) k)
-        → (found : Number) → first_number (flow_front t h) c rest ≡ found → say_next found line (flows_said ts hs cs (suc line) (behind_line rest)) ≡ nothing k
+        → (found : Option ℕ) → first_number (flow_front t h) c rest ≡ found → say_next found line (flows_said ts hs cs (suc line) (behind_line rest)) ≡ nothing k
         → Stopped (t ∷ ts) (h ∷ hs) (c ∷ cs) rest line k
-    go one_line fits on NoNumber found e =
+    go one_line fits on None found e =
         stopped_here t h c ts hs cs rest line k one_line fits (omega arith) (omega arith) found
         (stops_here line k (flows_said ts hs cs (suc line) (behind_line rest)) e)
-    go one_line fits on (Value f) found e =
+    go one_line fits on (Some f) found e =
         stopped_further t h c ts hs cs rest line k one_line fits (omega arith) (omega arith) f found
         (on (further f line k (flows_said ts hs cs (suc line) (behind_line rest)) e))
 
@@ -186,7 +185,7 @@ stopped_lines (t ∷ ts) (h ∷ hs) (c ∷ cs) rest line k a b ft fh fc e =
 
 module _ (t : Table) (ok : Accepted t) (text : List ℕ) where
   -- The first line says no value.
-  wrong_first : first_number value_front most_value text ≡ NoNumber → FirstWrong t text 1
+  wrong_first : first_number value_front most_value text ≡ None → FirstWrong t text 1
   unfolding solution_text run
   wrong_first none =
       record {
@@ -208,7 +207,7 @@ module _ (t : Table) (ok : Accepted t) (text : List ℕ) where
       }
 
   -- It says one, and the lines of arcs stop.
-  wrong_later : (value k : ℕ) → first_number value_front most_value text ≡ Value value
+  wrong_later : (value k : ℕ) → first_number value_front most_value text ≡ Some value
       → Stopped t.tails t.heads t.capacities (behind_line text) 2 k → FirstWrong t text k
   unfolding solution_text run
   wrong_later value k found s =
@@ -236,12 +235,12 @@ module _ (t : Table) (ok : Accepted t) (text : List ℕ) where
   unfolding text_words words_from words_of
   stops_first k e = go (first_number value_front most_value text) (flows_said t.tails t.heads t.capacities 2 (behind_line text)) refl refl e
     where
-      go : (found : Number) (said : Said) → first_number value_front most_value text ≡ found
+      go : (found : Option ℕ) (said : Said) → first_number value_front most_value text ≡ found
           → flows_said t.tails t.heads t.capacities 2 (behind_line text) ≡ said
           → words_from found said ≡ stop k → FirstWrong t text k
-      go NoNumber said found lines e = let same : 1 ≡ k = cc in subst (FirstWrong t text) same (wrong_first found)
-      go (Value value) (flows row) found lines e = absurd (let z : ◌≡◌ {A = ℕ} 0 1 = cc in omega arith)
-      go (Value value) (nothing line) found lines e =
+      go None said found lines e = let same : 1 ≡ k = cc in subst (FirstWrong t text) same (wrong_first found)
+      go (Some value) (flows row) found lines e = absurd (let z : ◌≡◌ {A = ℕ} 0 1 = cc in omega arith)
+      go (Some value) (nothing line) found lines e =
           let (ft, fh, fc) = ends_fit t ok in
           let same : line ≡ k = cc in
           wrong_later value k found

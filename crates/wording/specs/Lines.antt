@@ -1,8 +1,6 @@
 -- Document 02, CR 1: what a text says of its table, line by line; the first line that no solution text has there ends it.
-use Rattle.std.specs.Prelude.{ℕ, zero, suc, ◌≡◌, Bool, true, cond, List, [], ◌∷◌, ◌++◌, ltb, length, take, drop}
+use Rattle.std.specs.Prelude.{ℕ, zero, suc, ◌≡◌, Bool, true, cond, List, [], ◌∷◌, ◌++◌, ltb, length, take, drop, Option, Some, None}
 use Rattle.table.specs.Table.{Table}
-use Rattle.scan.specs.declared.Number.{Number}
-use Rattle.scan.specs.declared.Number.TheVariants.{Value, NoNumber}
 use Rattle.scan.specs.Parts.{LF, up_to, begins_with}
 use Rattle.scan.specs.Numbers.{number_in}
 use Rattle.wording.specs.Text.{value_front, flow_front, most_value, IsSolution}
@@ -20,17 +18,17 @@ abbrev pub is_ended : List ℕ → Bool
 is_ended rest = ltb (up_to LF rest) (length rest)
 
 -- A number that is not above `most`.
-unfoldable pub not_above : (most : ℕ) → Number → Number
-not_above most (Value x) = cond (ltb most x) NoNumber (Value x)
-not_above most NoNumber = NoNumber
+unfoldable pub not_above : (most : ℕ) → Option ℕ → Option ℕ
+not_above most (Some x) = cond (ltb most x) None (Some x)
+not_above most None = None
 
 -- The number that a line says behind these bytes, if it begins with them and its number is not above `most`.
-unfoldable pub number_behind : (front : List ℕ) (most : ℕ) (line : List ℕ) → Number
-number_behind front most line = cond (begins_with front line) (not_above most (number_in (drop (length front) line))) NoNumber
+unfoldable pub number_behind : (front : List ℕ) (most : ℕ) (line : List ℕ) → Option ℕ
+number_behind front most line = cond (begins_with front line) (not_above most (number_in (drop (length front) line))) None
 
 -- That of the first line of some bytes, if the line has its LF: a line that some solution text has there, or none.
-unfoldable pub first_number : (front : List ℕ) (most : ℕ) (rest : List ℕ) → Number
-first_number front most rest = cond (is_ended rest) (number_behind front most (first_line rest)) NoNumber
+unfoldable pub first_number : (front : List ℕ) (most : ℕ) (rest : List ℕ) → Option ℕ
+first_number front most rest = cond (is_ended rest) (number_behind front most (first_line rest)) None
 
 -- What the lines of arcs say: flows, or nothing, where the line of this number is the first that no solution text has there.
 pub data Said : Type 0 where
@@ -43,9 +41,9 @@ say_first first (flows rest) = flows (first ++ rest)
 say_first first (nothing line) = nothing line
 
 -- The line with this number says a flow, which stands in front of those that the further lines say.
-unfoldable pub say_next : Number → (line : ℕ) → Said → Said
-say_next (Value flow) line rest = say_first (flow ∷ []) rest
-say_next NoNumber line rest = nothing line
+unfoldable pub say_next : Option ℕ → (line : ℕ) → Said → Said
+say_next (Some flow) line rest = say_first (flow ∷ []) rest
+say_next None line rest = nothing line
 
 -- The lines of arcs: one for each, its flow within the capacity, and no line more. `line` is the number of the first.
 unfoldable pub flows_said : (tails heads capacities : List ℕ) (line : ℕ) (rest : List ℕ) → Said
@@ -66,9 +64,9 @@ words_of value (flows row) = words value row
 words_of value (nothing line) = stop line
 
 -- The value's line stands first, then the lines of the arcs.
-unfoldable pub words_from : Number → Said → Words
-words_from (Value value) said = words_of value said
-words_from NoNumber said = stop 1
+unfoldable pub words_from : Option ℕ → Said → Words
+words_from (Some value) said = words_of value said
+words_from None said = stop 1
 
 -- What a text says of a table with these arcs.
 unfoldable pub text_words : (tails heads capacities text : List ℕ) → Words

@@ -9,5 +9,5 @@ use Rattle.booking.proofs.write_reading.Goals as goal
 
 pub returns : goal.returns
 returns c =
-    c.put_all64.ensures
+    c.put_all.ensures
     ∙ ap (λ (l : List ℕ). bytes_of_all 8 l ++ drop 24 c.args.res.now) (three_are c.args.r _ _ _ c.wide.ensures.0 c.wide-2.ensures.0 c.wide-3.ensures.0)

@@ -9,5 +9,5 @@ use Rattle.booking.proofs.write_result.Goals as goal
 
 pub returns : goal.returns
 returns c =
-    c.put_all64.ensures
+    c.put_all.ensures
     ∙ ap (λ (l : List ℕ). bytes_of_all 8 l ++ drop 56 c.args.res.now) (seven_are c.args.a _ _ c.wide.ensures.0 c.wide-2.ensures.0)

@@ -1,47 +1,20 @@
 -- `get_column` meets its contract. The loop's invariant: the column holds the numbers before place k.
 use Prim.Native.Nat.{ℕ, ◌+◌, ◌*◌}
-use mathlib.Core.Path.{◌≡◌, refl, ap, ◌∙◌}
-use mathlib.Core.List.{List, ◌++◌}
+use mathlib.Core.Path.{refl, ap, ◌∙◌}
+use mathlib.Core.List.{List}
 use native.Mathlib.Omega.{arith}
-use lib.ListN.{drop, set, length-set}
-use Rattle.rows.specs.Row.{by_place}
+use lib.ListN.{set, length-set}
 use Rattle.rows.proofs.Rows.{fill_none, fill_place}
 use Rattle.little.specs.Little.{number32}
-use Rattle.little.proofs.Bytes.{record_inside}
 use Rattle.codec.proofs.get_column.Goals as goal
 
 pub loop-k-init : goal.loop-k-init
-loop-k-init c = (omega arith, refl, fill_none (λ i. number32 c.args.bytes.now (c.args.step * i + c.args.from)) c.args.column.now)
-
-pub overflow_mul-step : goal.overflow_mul-step
-overflow_mul-step c =
-    let given = c.args in
-    omega (arith, record_inside given.step c.loop-k.k given.count c.loop-k-test.true, c.requires.count_in_bounds.0)
-
-pub overflow_add-step : goal.overflow_add-step
-overflow_add-step c =
-    let given = c.args in
-    omega (arith, record_inside given.step c.loop-k.k given.count c.loop-k-test.true, c.requires.count_in_bounds.0)
-
-pub get32-requires : goal.get32-requires
-get32-requires c =
-    let given = c.args in
-    omega (arith, record_inside given.step c.loop-k.k given.count c.loop-k-test.true, c.requires.count_in_bounds.0)
+loop-k-init c = (refl, fill_none (λ i. number32 c.args.bytes.now (c.args.step * i + c.args.from)) c.args.column.now)
 
 pub loop-k-preserved : goal.loop-k-preserved
 loop-k-preserved c =
     let given = c.args in (
-      omega arith,
-      simp length-set (omega (arith, c.loop-k.invariant.1)),
-      ap (λ (row : List ℕ). set row c.loop-k.k c.get32.result) c.loop-k.invariant.2
-          ∙ fill_place (λ i. number32 given.bytes.now (given.step * i + given.from)) c.loop-k.k c.get32.result given.column.now (omega (arith, c.requires.count_in_bounds.1)) c.get32.ensures,
+      simp length-set (omega (arith, c.loop-k.invariant.0)),
+      ap (λ (row : List ℕ). set row c.loop-k.k c.get.result) c.loop-k.invariant.1
+          ∙ fill_place (λ i. number32 given.bytes.now (given.step * i + given.from)) c.loop-k.k c.get.result given.column.now (omega (arith, c.requires.count_in_bounds.1)) c.get.ensures,
     )
-
-pub shape_of-column : goal.shape_of-column
-shape_of-column c = c.loop-k.invariant.1
-
-pub returns : goal.returns
-returns c =
-    let given = c.args in
-    let all : c.loop-k.k ≡ given.count = omega arith in
-    c.loop-k.invariant.2 ∙ ap (λ (k : ℕ). by_place (λ i. number32 given.bytes.now (given.step * i + given.from)) k ++ drop k given.column.now) all

@@ -1,5 +1,5 @@
 -- `get_column` meets its contract. The loop's invariant: the column holds the numbers before place k.
-use Prim.Native.Nat.{◌+◌, ◌*◌, ◌-◌, ◌≤◌}
+use Prim.Native.Nat.{◌+◌, ◌*◌}
 use mathlib.Core.Path.{◌≡◌}
 use mathlib.Core.List.{◌++◌}
 use lib.ListN.{length, drop}
@@ -8,7 +8,4 @@ use Rattle.little.specs.Little.{number32}
 use Rattle.codec.proofs.get_column.Given as goal
 
 abbrev pub invariant-loop-k : goal.invariant-loop-k
-invariant-loop-k l = (l.k ≤ l.count) × (length l.column ≡ length l.initial.column) × (l.column ≡ by_place (λ i. number32 l.bytes (l.step * i + l.from)) l.k ++ drop l.k l.initial.column)
-
-abbrev pub decreases-loop-k : goal.decreases-loop-k
-decreases-loop-k l = l.count - l.k
+invariant-loop-k l = (length l.column ≡ length l.initial.column) × (l.column ≡ by_place (λ i. number32 l.bytes (l.step * i + l.from)) l.k ++ drop l.k l.initial.column)

@@ -1,5 +1,5 @@
 -- `fill_room` meets its contract: each place holds the capacities of the arcs so far whose pair has it.
-use Prim.Native.Nat.{ℕ, suc, ◌-◌, ◌≤◌}
+use Prim.Native.Nat.{ℕ, suc}
 use mathlib.Core.Path.{◌≡◌}
 use lib.Dec.{eqb}
 use lib.ListN.{length}
@@ -10,8 +10,5 @@ use Rattle.pairs.proofs.fill_room.Given as goal
 
 abbrev pub invariant-loop-place : goal.invariant-loop-place
 invariant-loop-place l =
-    (l.place ≤ length l.capacities) × (length l.room ≡ length l.initial.room)
+    (length l.room ≡ length l.initial.room)
     × ((p : ℕ) → at_place l.room p ≡ sum l.place (λ j. only (eqb (first_to (at_place l.tails) (at_place l.heads) (length l.tails) (at_place l.tails j) (at_place l.heads j)) (suc p)) (at_place l.capacities j)))
-
-abbrev pub decreases-loop-place : goal.decreases-loop-place
-decreases-loop-place l = length l.capacities - l.place

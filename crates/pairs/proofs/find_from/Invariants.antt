@@ -1,5 +1,5 @@
 -- `find_from` meets its contract: wherever the chain leads from its beginning, it leads from here.
-use Prim.Native.Nat.{ℕ, ◌-◌, ◌≤◌}
+use Prim.Native.Nat.{ℕ, ◌≤◌}
 use lib.ListN.{length}
 use Rattle.pairs.specs.Places.{Leads}
 use Rattle.pairs.proofs.find_from.Given as goal

@@ -21,10 +21,6 @@ bounds-first-chain_of c =
     let node : Node c.args.n c.args.a = node_is c.args.n c.args.a (sym c.is_node.ensures ∙ c.if-not-is_node.false) in
     omega (arith, node, c.requires.1.first_long, c.chain_of.ensures)
 
-pub find_from-requires : goal.find_from-requires
-find_from-requires c =
-    (c.requires.1.falls, c.requires.1.starts c.chain_of.result, c.requires.1.next_long)
-
 pub returns : goal.returns
 returns c =
     let node : Node c.args.n c.args.a = node_is c.args.n c.args.a (sym c.is_node.ensures ∙ c.if-not-is_node.false) in

@@ -1,44 +1,56 @@
 -- `take_pair` meets its contract: what is left of the pair tells.
-use Prim.Native.Nat.{ℕ, suc, ◌-◌, ◌<◌}
-use mathlib.Core.Path.{◌≡◌, refl, sym, ◌∙◌}
+use Prim.Native.Nat.{ℕ, suc, ◌<◌}
+use mathlib.Core.Path.{◌≡◌, refl, sym, ◌∙◌, ap}
 use native.Mathlib.Omega.{arith}
 use lib.ListN.{length}
-use Rattle.pairs.specs.Places.{Places}
+use Rattle.pairs.specs.Places.{Places, counted}
 use Rattle.pairs.proofs.Room.{place_within, took_none, took_little, took_one}
 use Rattle.pairs.proofs.take_pair.Goals as goal
 
-pub returns-then-found-eq0 : goal.returns-then-found-eq0
-returns-then-found-eq0 c =
+pub returns-in_default : goal.returns-in_default
+returns-in_default c =
     let a = c.args in
-    λ place p. took_none place a.room.now a.x (sym (c.find_pair-found.ensures place p) ∙ c.if-found-eq0.true) _ refl
+    λ place p. took_none place a.room.now a.x (sym (c.find_pair.ensures place p) ∙ ap counted c.in_default.is) _ refl
+
+pub offset_bounds-room-at : goal.offset_bounds-room-at
+offset_bounds-room-at c =
+    let found : (place : ℕ → ℕ → ℕ) → Places c.args.n c.args.heads.now c.args.first.now c.args.next.now place → place c.args.x.tail c.args.x.head ≡ suc c.in-Some.at = λ place p. sym (ap counted (sym c.in-Some.is) ∙ c.find_pair.ensures place p) in
+    let bound : c.in-Some.at < length c.args.room.now = let (place, p) = c.requires.0 in omega (arith, found place p, place_within p c.args.x.tail c.args.x.head, c.requires.1) in
+    omega (arith, bound)
+
+pub offset_bounds-room-at-2 : goal.offset_bounds-room-at-2
+offset_bounds-room-at-2 c =
+    let found : (place : ℕ → ℕ → ℕ) → Places c.args.n c.args.heads.now c.args.first.now c.args.next.now place → place c.args.x.tail c.args.x.head ≡ suc c.in-Some.at = λ place p. sym (ap counted (sym c.in-Some.is) ∙ c.find_pair.ensures place p) in
+    let bound : c.in-Some.at < length c.args.room.now = let (place, p) = c.requires.0 in omega (arith, found place p, place_within p c.args.x.tail c.args.x.head, c.requires.1) in
+    omega (arith, bound)
 
 pub bounds-room-at : goal.bounds-room-at
 bounds-room-at c =
-    let found : (place : ℕ → ℕ → ℕ) → Places c.args.n c.args.heads.now c.args.first.now c.args.next.now place → place c.args.x.tail c.args.x.head ≡ suc (c.find_pair-found.result - 1) = λ place p. omega (arith, c.find_pair-found.ensures place p, c.if-found-eq0.false) in
-    let bound : c.find_pair-found.result - 1 < length c.args.room.now = let (place, p) = c.requires.0 in omega (arith, found place p, place_within p c.args.x.tail c.args.x.head, c.requires.1) in
+    let found : (place : ℕ → ℕ → ℕ) → Places c.args.n c.args.heads.now c.args.first.now c.args.next.now place → place c.args.x.tail c.args.x.head ≡ suc c.in-Some.at = λ place p. sym (ap counted (sym c.in-Some.is) ∙ c.find_pair.ensures place p) in
+    let bound : c.in-Some.at < length c.args.room.now = let (place, p) = c.requires.0 in omega (arith, found place p, place_within p c.args.x.tail c.args.x.head, c.requires.1) in
     bound
-
-pub returns-then-room-at : goal.returns-then-room-at
-returns-then-room-at c =
-    let found : (place : ℕ → ℕ → ℕ) → Places c.args.n c.args.heads.now c.args.first.now c.args.next.now place → place c.args.x.tail c.args.x.head ≡ suc (c.find_pair-found.result - 1) = λ place p. omega (arith, c.find_pair-found.ensures place p, c.if-found-eq0.false) in
-    let a = c.args in
-    λ place p. took_little place a.room.now a.x (c.find_pair-found.result - 1) (found place p) c.if-room-at.true a.room.now
 
 pub bounds-room-at-2 : goal.bounds-room-at-2
 bounds-room-at-2 c =
-    let found : (place : ℕ → ℕ → ℕ) → Places c.args.n c.args.heads.now c.args.first.now c.args.next.now place → place c.args.x.tail c.args.x.head ≡ suc (c.find_pair-found.result - 1) = λ place p. omega (arith, c.find_pair-found.ensures place p, c.if-found-eq0.false) in
-    let bound : c.find_pair-found.result - 1 < length c.args.room.now = let (place, p) = c.requires.0 in omega (arith, found place p, place_within p c.args.x.tail c.args.x.head, c.requires.1) in
+    let found : (place : ℕ → ℕ → ℕ) → Places c.args.n c.args.heads.now c.args.first.now c.args.next.now place → place c.args.x.tail c.args.x.head ≡ suc c.in-Some.at = λ place p. sym (ap counted (sym c.in-Some.is) ∙ c.find_pair.ensures place p) in
+    let bound : c.in-Some.at < length c.args.room.now = let (place, p) = c.requires.0 in omega (arith, found place p, place_within p c.args.x.tail c.args.x.head, c.requires.1) in
     bound
 
 pub bounds-room-at-3 : goal.bounds-room-at-3
 bounds-room-at-3 c =
-    let found : (place : ℕ → ℕ → ℕ) → Places c.args.n c.args.heads.now c.args.first.now c.args.next.now place → place c.args.x.tail c.args.x.head ≡ suc (c.find_pair-found.result - 1) = λ place p. omega (arith, c.find_pair-found.ensures place p, c.if-found-eq0.false) in
-    let bound : c.find_pair-found.result - 1 < length c.args.room.now = let (place, p) = c.requires.0 in omega (arith, found place p, place_within p c.args.x.tail c.args.x.head, c.requires.1) in
+    let found : (place : ℕ → ℕ → ℕ) → Places c.args.n c.args.heads.now c.args.first.now c.args.next.now place → place c.args.x.tail c.args.x.head ≡ suc c.in-Some.at = λ place p. sym (ap counted (sym c.in-Some.is) ∙ c.find_pair.ensures place p) in
+    let bound : c.in-Some.at < length c.args.room.now = let (place, p) = c.requires.0 in omega (arith, found place p, place_within p c.args.x.tail c.args.x.head, c.requires.1) in
     bound
+
+pub returns-then-room-at : goal.returns-then-room-at
+returns-then-room-at c =
+    let found : (place : ℕ → ℕ → ℕ) → Places c.args.n c.args.heads.now c.args.first.now c.args.next.now place → place c.args.x.tail c.args.x.head ≡ suc c.in-Some.at = λ place p. sym (ap counted (sym c.in-Some.is) ∙ c.find_pair.ensures place p) in
+    let a = c.args in
+    λ place p. took_little place a.room.now a.x c.in-Some.at (found place p) c.if-room-at.true a.room.now
 
 pub returns : goal.returns
 returns c =
-    let found : (place : ℕ → ℕ → ℕ) → Places c.args.n c.args.heads.now c.args.first.now c.args.next.now place → place c.args.x.tail c.args.x.head ≡ suc (c.find_pair-found.result - 1) = λ place p. omega (arith, c.find_pair-found.ensures place p, c.if-found-eq0.false) in
-    let bound : c.find_pair-found.result - 1 < length c.args.room.now = let (place, p) = c.requires.0 in omega (arith, found place p, place_within p c.args.x.tail c.args.x.head, c.requires.1) in
+    let found : (place : ℕ → ℕ → ℕ) → Places c.args.n c.args.heads.now c.args.first.now c.args.next.now place → place c.args.x.tail c.args.x.head ≡ suc c.in-Some.at = λ place p. sym (ap counted (sym c.in-Some.is) ∙ c.find_pair.ensures place p) in
+    let bound : c.in-Some.at < length c.args.room.now = let (place, p) = c.requires.0 in omega (arith, found place p, place_within p c.args.x.tail c.args.x.head, c.requires.1) in
     let a = c.args in
-    λ place p. took_one place a.room.now a.x p.apart (c.find_pair-found.result - 1) (found place p) bound c.if-room-at.false
+    λ place p. took_one place a.room.now a.x p.apart c.in-Some.at (found place p) bound c.if-room-at.false

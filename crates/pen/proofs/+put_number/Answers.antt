@@ -6,5 +6,5 @@ use Rattle.pen.proofs.+put_number.Goals as goal
 pub returns-then-n-lt10 : goal.returns-then-n-lt10
 returns-then-n-lt10 t c = rw (printed_small c.args.n c.if-n-lt10.true) c.put.ensures
 
-pub returns : goal.returns
-returns t c = rw (printed_large c.args.n c.if-n-lt10.false c.ranges.n.fits) (wrote_then c.put_number-place.ensures c.put-2.ensures)
+pub returns-else-n-lt10 : goal.returns-else-n-lt10
+returns-else-n-lt10 t c = rw (printed_large c.args.n c.if-n-lt10.false c.ranges.n.fits) (wrote_then c.put_number-place.ensures c.put-else-n-lt10.ensures)

@@ -5,6 +5,3 @@ use Rattle.pen.proofs.put_further.Goals as goal
 pub returns-then-some : goal.returns-then-some
 returns-then-some c =
     rw c.if-some.true (wrote_then c.put-place.ensures c.put_number.ensures)
-
-pub returns : goal.returns
-returns c = rw c.if-some.false c.put_number-2.ensures

@@ -1,5 +1,4 @@
 -- `add_at` meets its contract: x is added at a node, and nothing elsewhere.
-use Prim.Native.Nat.{◌-◌}
 use mathlib.Core.Path.{sym, ◌∙◌}
 use native.Mathlib.Omega.{arith}
 use Rattle.rows.specs.Row.{Node}
@@ -17,11 +16,6 @@ bounds-row-at c =
     let node : Node c.args.n c.args.i = node_is _ _ (sym c.is_node.ensures ∙ c.if-is_node.true) in
     omega (arith, node)
 
-pub overflow_add-row : goal.overflow_add-row
-overflow_add-row c =
-    let node : Node c.args.n c.args.i = node_is _ _ (sym c.is_node.ensures ∙ c.if-is_node.true) in
-    omega (arith, node, c.requires.2 (c.args.i - 1), c.wide.ensures.1)
-
 pub bounds-row-at-then-is_node : goal.bounds-row-at-then-is_node
 bounds-row-at-then-is_node c =
     let node : Node c.args.n c.args.i = node_is _ _ (sym c.is_node.ensures ∙ c.if-is_node.true) in
@@ -31,7 +25,7 @@ pub returns-then-is_node : goal.returns-then-is_node
 returns-then-is_node c =
     let node : Node c.args.n c.args.i = node_is _ _ (sym c.is_node.ensures ∙ c.if-is_node.true) in
     let a = c.args in
-    adds_one a.n a.row.now a.i a.x c.wide.result node (omega (arith, node)) (omega (arith, c.wide.ensures)) c.wide.ensures.0
+    adds_one a.n a.row.now a.i a.x c.from.result node (omega (arith, node)) (omega (arith, c.from.ensures)) c.from.ensures
 
 pub returns-else-is_node : goal.returns-else-is_node
 returns-else-is_node c = let a = c.args in

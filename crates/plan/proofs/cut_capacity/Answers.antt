@@ -14,27 +14,14 @@ use Rattle.plan.proofs.cut_capacity.Goals as goal
 
 pub loop-place-init : goal.loop-place-init
 unfolding sum
-loop-place-init c = (omega arith, omega arith, refl)
-
-pub crossing-total-requires : goal.crossing-total-requires
-crossing-total-requires c =
-    let a = c.args in
-    let v = c.requires.0.ends.tail_node c.loop-place.place (omega (arith, c.requires.0.capacities_long)) in
-    let w = c.requires.0.ends.head_node c.loop-place.place (omega (arith, c.requires.0.capacities_long)) in
-    ((v.0, omega arith), (w.0, omega arith))
-
-pub overflow_add-total : goal.overflow_add-total
-overflow_add-total c =
-    let a = c.args in
-    omega (arith, c.crossing-total.ensures, only_le (marked a.side.now (at_place a.table.now.tails.now c.loop-place.place) && not (marked a.side.now (at_place a.table.now.heads.now c.loop-place.place))) (at_place a.table.now.capacities.now c.loop-place.place), c.requires.0.small c.loop-place.place c.loop-place-test.true, c.requires.0.capacities_long, c.requires.0.ends.few_arcs)
+loop-place-init c = (omega arith, refl)
 
 pub loop-place-preserved : goal.loop-place-preserved
 unfolding sum
 loop-place-preserved c =
     let a = c.args in (
-      omega arith,
       omega (arith, c.crossing-total.ensures, only_le (marked a.side.now (at_place a.table.now.tails.now c.loop-place.place) && not (marked a.side.now (at_place a.table.now.heads.now c.loop-place.place))) (at_place a.table.now.capacities.now c.loop-place.place), c.requires.0.small c.loop-place.place c.loop-place-test.true),
-      rw add-one (omega (arith, c.loop-place.invariant.2, c.crossing-total.ensures)),
+      rw add-one (omega (arith, c.loop-place.invariant.1, c.crossing-total.ensures)),
     )
 
 pub returns : goal.returns
@@ -42,4 +29,4 @@ unfolding leaving
 returns c =
     let a = c.args in
     let all : c.loop-place.place ≡ length a.table.now.capacities.now = omega arith in
-    c.loop-place.invariant.2 ∙ ap (λ (k : ℕ). sum k (λ j. only (marked a.side.now (at_place a.table.now.tails.now j) && not (marked a.side.now (at_place a.table.now.heads.now j))) (at_place a.table.now.capacities.now j))) all
+    c.loop-place.invariant.1 ∙ ap (λ (k : ℕ). sum k (λ j. only (marked a.side.now (at_place a.table.now.tails.now j) && not (marked a.side.now (at_place a.table.now.heads.now j))) (at_place a.table.now.capacities.now j))) all

@@ -1,8 +1,7 @@
 -- `cut_capacity` meets its contract: the total is that of the arcs so far.
-use Prim.Native.Nat.{◌*◌, ◌-◌, ◌≤◌}
+use Prim.Native.Nat.{◌*◌, ◌≤◌}
 use mathlib.Core.Path.{◌≡◌}
 use mathlib.Core.Bool.{not, ◌&&◌}
-use lib.ListN.{length}
 use Rattle.rows.specs.Row.{at_place}
 use Rattle.rows.specs.Sum.{sum, only}
 use Rattle.reach.specs.Side.{marked}
@@ -10,8 +9,5 @@ use Rattle.plan.proofs.cut_capacity.Given as goal
 
 abbrev pub invariant-loop-place : goal.invariant-loop-place
 invariant-loop-place l =
-    (l.place ≤ length l.capacities) × (l.total ≤ l.place * 1000000)
+    (l.total ≤ l.place * 1000000)
     × (l.total ≡ sum l.place (λ k. only (marked l.side (at_place l.tails k) && not (marked l.side (at_place l.heads k))) (at_place l.capacities k)))
-
-abbrev pub decreases-loop-place : goal.decreases-loop-place
-decreases-loop-place l = length l.capacities - l.place

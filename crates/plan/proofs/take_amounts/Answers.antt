@@ -1,6 +1,6 @@
 -- `take_amounts` meets its contract: the amounts of the lines before `at` are in the rows, and those of the others are left.
-use Prim.Native.Nat.{◌+◌, ◌-◌, ◌≤◌}
-use mathlib.Core.Path.{◌≡◌, refl, ◌∙◌}
+use Prim.Native.Nat.{◌+◌, ◌≤◌}
+use mathlib.Core.Path.{◌≡◌, ◌∙◌}
 use mathlib.Core.Bool.{not}
 use mathlib.Core.List.{◌++◌}
 use native.Mathlib.Omega.{arith}
@@ -13,33 +13,10 @@ use Rattle.sharing.specs.Test.{out_sum, into_sum}
 use Rattle.plan.proofs.Amounts.{amounts_from, amounts_here, amounts_end, balance_on, balance_end, pairs_on, pairs_end, most_on}
 use Rattle.plan.proofs.take_amounts.Goals as goal
 
-pub loop-at-init : goal.loop-at-init
-loop-at-init c = (
-  c.requires.rows.0,
-  omega arith,
-  λ k. omega (arith, c.requires.rows.2 k),
-  λ k. omega (arith, c.requires.rows.3 k),
-  λ i v. omega (arith, c.requires.rows.2 (i - 1)),
-  λ i v. omega (arith, c.requires.rows.3 (i - 1)),
-  λ place p a b. refl,
-  refl,
-)
-
 pub slice_bounds-line_kind-end : goal.slice_bounds-line_kind-end
 slice_bounds-line_kind-end c =
     let within : c.find-end.result ≤ length c.args.text.now = omega (arith, c.find-end.ensures, run_within (λ b. not (eqb b LF)) c.args.text.now c.loop-at.at (omega arith)) in
     within
-
-pub take_kind-fits-requires : goal.take_kind-fits-requires
-take_kind-fits-requires c = record {
-  by_index = c.requires.by_index;
-  rows = (c.loop-at.invariant.0, λ k. omega (arith, c.loop-at.invariant.2 k), λ k. omega (arith, c.loop-at.invariant.3 k));
-}
-
-pub overflow_add-at : goal.overflow_add-at
-overflow_add-at c =
-    let within : c.find-end.result ≤ length c.args.text.now = omega (arith, c.find-end.ensures, run_within (λ b. not (eqb b LF)) c.args.text.now c.loop-at.at (omega arith)) in
-    omega (arith, within)
 
 pub loop-at-preserved : goal.loop-at-preserved
 loop-at-preserved c =
@@ -64,9 +41,6 @@ loop-at-preserved c =
       λ place p. pairs_on place a.room.now c.loop-at.room c.take_kind-fits.new.room all rest more further c.loop-at.fits c.take_kind-fits.result (c.loop-at.invariant.6 place p) here (c.take_kind-fits.ensures.pairs place p),
       c.take_kind-fits.auto.room ∙ c.loop-at.invariant.7,
     )
-
-pub shape_of-room : goal.shape_of-room
-shape_of-room c = c.loop-at.invariant.7
 
 pub returns : goal.returns
 returns c =

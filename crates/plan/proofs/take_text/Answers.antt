@@ -23,24 +23,6 @@ fill_room-requires c = record {
   places = c.index_arcs.ensures;
 }
 
-pub take_amounts-requires : goal.take_amounts-requires
-take_amounts-requires c =
-    let places : ℕ → ℕ → ℕ = first_to (at_place c.args.tails.now) (at_place c.args.heads.now) (length c.args.tails.now) in
-    let ends = c.requires.arc_rows.0.ends in record {
-      by_index = (places, c.index_arcs.ensures);
-      rows = (
-        record {
-          few = ends.few_nodes;
-          pairs = omega (arith, c.fill_room.auto.room, zeros_length 4096, ends.heads_long, ends.few_arcs);
-          nodes_out = c.requires.out_len.0;
-          nodes_into = c.requires.out_len.1;
-        },
-        c.requires.arc_rows.1,
-        c.requires.out_len.2,
-        c.requires.out_len.3,
-      );
-    }
-
 pub returns : goal.returns
 returns c =
     let places : ℕ → ℕ → ℕ = first_to (at_place c.args.tails.now) (at_place c.args.heads.now) (length c.args.tails.now) in

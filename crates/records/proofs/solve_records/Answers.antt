@@ -7,4 +7,4 @@ pub returns : goal.returns
 returns c =
     let a = c.args in
     promised a.n a.s a.t a.stamp a.arcs.now a.flow.now a.side.now a.work.now c.copy_arcs-row.ensures
-    (signed_left c.solve_row.result c.solve_row.new.flow c.solve_row.new.side c.solve_row.new.work) c.solve_row.ensures
+    (signed_left c.solve_columns.result c.solve_columns.new.flow c.solve_columns.new.side c.solve_columns.new.work) c.solve_columns.ensures

@@ -1,14 +1,11 @@
--- `put_marked` meets its contract: all but the marked nodes from `i` on are written.
+-- `put_marked` meets its contract: all but the marked nodes from here on are written.
 use Rattle.pen.proofs.Writing.{Partly}
 use Rattle.pen.specs.Printed.{spaced}
 use Rattle.report.specs.Printed.{marked_nodes}
-use lib.ListN.{length, drop}
+use lib.ListN.{drop}
 use mathlib.Core.Bool.{false}
-use Prim.Native.Nat.{◌+◌, ◌-◌, ◌≤◌}
+use Prim.Native.Nat.{◌+◌}
 use Rattle.report.proofs.put_marked.Given as goal
 
 abbrev pub invariant-loop-i : goal.invariant-loop-i
-invariant-loop-i l = (l.i ≤ length l.side) × Partly l.initial.out l.at (spaced false (marked_nodes 1 l.side)) (spaced l.some (marked_nodes (l.i + 1) (drop l.i l.side))) l.out l.place
-
-abbrev pub decreases-loop-i : goal.decreases-loop-i
-decreases-loop-i l = length l.side - l.i
+invariant-loop-i l = Partly l.initial.out l.at (spaced false (marked_nodes 1 l.side)) (spaced l.some (marked_nodes (l.i + 1) (drop l.i l.side))) l.out l.place

@@ -1,24 +1,12 @@
--- `all_digits` meets its contract: the bytes are all digits exactly when the rest from `at` on is.
-use mathlib.Core.Path.{refl, sym, ◌∙◌}
-use native.Mathlib.Omega.{arith}
-use Rattle.scan.proofs.Walk.{digits_low, digits_high, digits_more, digits_end}
+-- `all_digits` meets its contract: each byte is tested.
+use mathlib.Core.Path.{◌∙◌}
+use Rattle.std.proofs.Common.{rules, tests}
+use Rattle.std.proofs.lemmas.Iterator.{YieldsList-from_slice}
+use Rattle.std.proofs.lemmas.Iterator.Search.{all_from_yields_List}
+use Rattle.scan.specs.Numbers.{is_digit}
+use Rattle.scan.proofs.Comparing.{digits_is}
 use Rattle.scan.proofs.all_digits.Goals as goal
 
-pub loop-at-init : goal.loop-at-init
-loop-at-init c = (omega arith, refl)
-
-pub returns-then-field-at-lt48 : goal.returns-then-field-at-lt48
-returns-then-field-at-lt48 c =
-    sym (c.loop-at.invariant.1 ∙ digits_low c.args.field.now c.loop-at.at (omega arith) c.if-field-at-lt48.true)
-
-pub returns-then-field-at-gt57 : goal.returns-then-field-at-gt57
-returns-then-field-at-gt57 c =
-    sym (c.loop-at.invariant.1 ∙ digits_high c.args.field.now c.loop-at.at (omega arith) c.if-field-at-lt48.false c.if-field-at-gt57.true)
-
-pub loop-at-preserved : goal.loop-at-preserved
-loop-at-preserved c =
-    (omega arith, c.loop-at.invariant.1 ∙ digits_more c.args.field.now c.loop-at.at (omega arith) c.if-field-at-lt48.false c.if-field-at-gt57.false)
-
 pub returns : goal.returns
-returns c =
-    sym (c.loop-at.invariant.1 ∙ digits_end c.args.field.now c.loop-at.at c.loop-at-test.false)
+unfolding is_digit
+returns c = all_from_yields_List is_digit _ _ _ c.all.ensures.ran (YieldsList-from_slice c.args.field.now cc) (λ x b q k. search (rules, tests)) ∙ digits_is c.args.field.now

@@ -8,7 +8,4 @@ use Rattle.scan.proofs.field.Given as goal
 
 abbrev pub invariant-loop-passed : goal.invariant-loop-passed
 invariant-loop-passed l =
-    (l.end ≡ length l.line) × (l.start ≤ l.stop) × (l.passed ≤ l.k) × Passed l.line l.stop (l.passed + 1) × (take (l.stop - l.start) (drop l.start l.line) ≡ field_at l.line l.passed)
-
-abbrev pub decreases-loop-passed : goal.decreases-loop-passed
-decreases-loop-passed l = l.k - l.passed
+    (l.end ≡ length l.line) × (l.start ≤ l.stop) × Passed l.line l.stop (l._passed + 1) × (take (l.stop - l.start) (drop l.start l.line) ≡ field_at l.line l._passed)

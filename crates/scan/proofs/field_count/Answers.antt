@@ -11,11 +11,6 @@ pub returns-then-line-start : goal.returns-then-line-start
 returns-then-line-start c =
     passed_all c.loop-count.invariant c.run_end-start.result c.run_end-start.ensures c.if-line-start.true
 
-pub overflow_add-count : goal.overflow_add-count
-overflow_add-count c =
-    let going : Passed c.args.line.now c.run_end-stop-in-loop-count.result (c.loop-count.count + 1) × (c.run_end-start.result < c.run_end-stop-in-loop-count.result) = passed_next c.loop-count.invariant c.run_end-start.result c.run_end-start.ensures c.run_end-stop-in-loop-count.result c.run_end-stop-in-loop-count.ensures c.if-line-start.false in
-    omega (arith, going.0.few, going.0.within)
-
 pub loop-count-smaller : goal.loop-count-smaller
 loop-count-smaller c =
     let going : Passed c.args.line.now c.run_end-stop-in-loop-count.result (c.loop-count.count + 1) × (c.run_end-start.result < c.run_end-stop-in-loop-count.result) = passed_next c.loop-count.invariant c.run_end-start.result c.run_end-start.ensures c.run_end-stop-in-loop-count.result c.run_end-stop-in-loop-count.ensures c.if-line-start.false in

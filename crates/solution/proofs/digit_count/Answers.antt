@@ -1,11 +1,7 @@
-use mathlib.Core.Path.{refl}
 use native.Mathlib.Omega.{arith}
 use Rattle.pen.proofs.Digits.{digits_most}
 use Rattle.wording.proofs.Lengths.{digits_more, digits_one}
 use Rattle.solution.proofs.digit_count.Goals as goal
-
-pub loop-left-init : goal.loop-left-init
-loop-left-init c = (omega arith, refl)
 
 pub overflow_add-count : goal.overflow_add-count
 overflow_add-count c = omega (arith, c.loop-left.invariant.1, digits_most 20 c.args.n)

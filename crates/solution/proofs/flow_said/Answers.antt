@@ -1,8 +1,7 @@
 -- `flow_said` meets its contract: the bytes before `end` are what the line of that arc begins with.
-use lib.Seq.{length-take-le}
-use Rattle.pen.proofs.Writing.{wrote_within, wrote_whole}
+use Rattle.pen.proofs.Writing.{wrote_whole}
 use Prim.Native.Nat.{ℕ}
-use mathlib.Core.Path.{◌≡◌, sym, ap, ◌∙◌}
+use mathlib.Core.Path.{◌≡◌, ap, ◌∙◌}
 use mathlib.Core.List.{List}
 use lib.ListN.{take}
 use native.Mathlib.Omega.{arith}
@@ -10,9 +9,6 @@ use Rattle.wording.specs.Text.{flow_front}
 use Rattle.wording.specs.Lines.{number_behind}
 use Rattle.wording.proofs.Lengths.{front_length}
 use Rattle.solution.proofs.flow_said.Goals as goal
-
-pub slice_bounds-number_behind-end : goal.slice_bounds-number_behind-end
-slice_bounds-number_behind-end c = sym (length-take-le _ _ (wrote_within c.put_front-end.ensures))
 
 pub returns : goal.returns
 returns c =

@@ -15,7 +15,7 @@ returns c = let a = c.args in
       c.digit_count.ensures,
       c.digit_count-2.ensures,
       c.digit_count-3.ensures,
-      ap (λ (n : ℕ). length (printed n)) c.wide.ensures.0,
-      ap (λ (n : ℕ). length (printed n)) c.wide-2.ensures.0,
-      ap (λ (n : ℕ). length (printed n)) c.wide-3.ensures.0,
+      ap (λ (n : ℕ). length (printed n)) c.from.ensures,
+      ap (λ (n : ℕ). length (printed n)) c.from-2.ensures,
+      ap (λ (n : ℕ). length (printed n)) c.from-3.ensures,
     )

@@ -25,23 +25,23 @@ slice_bounds-read_number-start c =
     let begins : begins_with c.args.front.now c.args.line.now ≡ true = sym c.begins_with.ensures ∙ c.if-not-begins_with.false in
     omega (arith, begins_length _ _ begins)
 
-pub returns-in_default : goal.returns-in_default
-returns-in_default c =
+pub returns-in_err-number : goal.returns-in_err-number
+returns-in_err-number c =
     let begins : begins_with c.args.front.now c.args.line.now ≡ true = sym c.begins_with.ensures ∙ c.if-not-begins_with.false in
     let behind : number_in (drop (length c.args.front.now) c.args.line.now) ≡ c.read_number.result = let a = c.args in let whole = take_all (length a.line.now - length a.front.now) (drop (length a.front.now) a.line.now) (rw length-drop (omega arith)) in sym (c.read_number.ensures ∙ ap number_in whole) in
     let a = c.args in
-    sym (behind_none a.front.now a.line.now a.most begins (behind ∙ c.in_default.is))
+    rw c.from_residual.ensures (sym (behind_none a.front.now a.line.now a.most begins (behind ∙ c.in_err-number.was)))
 
-pub returns-then-most-number : goal.returns-then-most-number
-returns-then-most-number c =
+pub returns-else-number-most : goal.returns-else-number-most
+returns-else-number-most c =
     let begins : begins_with c.args.front.now c.args.line.now ≡ true = sym c.begins_with.ensures ∙ c.if-not-begins_with.false in
     let behind : number_in (drop (length c.args.front.now) c.args.line.now) ≡ c.read_number.result = let a = c.args in let whole = take_all (length a.line.now - length a.front.now) (drop (length a.front.now) a.line.now) (rw length-drop (omega arith)) in sym (c.read_number.ensures ∙ ap number_in whole) in
     let a = c.args in
-    sym (behind_above a.front.now a.line.now a.most c.in-Value.number begins (behind ∙ c.in-Value.is) c.if-most-number.true)
+    sym (behind_above a.front.now a.line.now a.most c.in_ok-number.number begins (behind ∙ c.in_ok-number.was) c.if-number-most.false)
 
-pub returns : goal.returns
-returns c =
+pub returns-then-number-most : goal.returns-then-number-most
+returns-then-number-most c =
     let begins : begins_with c.args.front.now c.args.line.now ≡ true = sym c.begins_with.ensures ∙ c.if-not-begins_with.false in
     let behind : number_in (drop (length c.args.front.now) c.args.line.now) ≡ c.read_number.result = let a = c.args in let whole = take_all (length a.line.now - length a.front.now) (drop (length a.front.now) a.line.now) (rw length-drop (omega arith)) in sym (c.read_number.ensures ∙ ap number_in whole) in
     let a = c.args in
-    sym (behind_value a.front.now a.line.now a.most c.in-Value.number begins (behind ∙ c.in-Value.is) c.if-most-number.false)
+    sym (behind_value a.front.now a.line.now a.most c.in_ok-number.number begins (behind ∙ c.in_ok-number.was) c.if-number-most.true)

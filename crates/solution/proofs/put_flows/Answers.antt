@@ -1,23 +1,14 @@
 use native.Mathlib.Omega.{arith}
-use Rattle.pen.proofs.Writing.{wrote_within, wrote_length, partly_none, partly_more, partly_all}
+use Rattle.pen.proofs.Writing.{partly_more, partly_all}
 use Rattle.wording.proofs.Lengths.{lines_here, lines_end}
 use Rattle.solution.proofs.put_flows.Goals as goal
-
-pub loop-place-init : goal.loop-place-init
-loop-place-init c = (omega arith, partly_none c.requires.0)
-
-pub put_flow-end-requires : goal.put_flow-end-requires
-put_flow-end-requires c = wrote_within c.loop-place.invariant.1.wrote
 
 pub loop-place-preserved : goal.loop-place-preserved
 loop-place-preserved c =
     let a = c.args in
-    (omega arith, partly_more c.loop-place.invariant.1 c.put_flow-end.ensures (lines_here a.tails.now a.heads.now a.flow.now c.loop-place.place (omega arith) (omega arith) (omega arith)))
-
-pub shape_of-out : goal.shape_of-out
-shape_of-out c = wrote_length c.loop-place.invariant.1.wrote
+    partly_more c.loop-place.invariant c.put_flow-end.ensures (lines_here a.tails.now a.heads.now a.flow.now c.loop-place.place (omega arith) (omega arith) (omega arith))
 
 pub returns : goal.returns
 returns c =
     let a = c.args in
-    partly_all (lines_end a.tails.now a.heads.now a.flow.now c.loop-place.place c.loop-place-test.false) c.loop-place.invariant.1
+    partly_all (lines_end a.tails.now a.heads.now a.flow.now c.loop-place.place c.loop-place-test.false) c.loop-place.invariant

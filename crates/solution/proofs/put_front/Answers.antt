@@ -5,7 +5,7 @@ use Rattle.solution.proofs.put_front.Goals as goal
 
 pub returns : goal.returns
 unfolding flow_front
-returns c = rw (← c.wide.ensures.0, ← c.wide-2.ensures.0)
+returns c = rw (← c.from.ensures, ← c.from-2.ensures)
     (wrote_then c.put_bytes-ends.ensures
     (wrote_then c.put_number-between.ensures
     (wrote_then c.put-second.ensures (wrote_then c.put_number-behind.ensures c.put.ensures))))

@@ -1,7 +1,5 @@
 -- `read_text` meets its contract: the first line is the value's, or it is at fault.
-use native.Mathlib.Omega.{arith}
 use mathlib.Core.Path.{sym, ◌∙◌}
-use lib.Seq.{length-take-le}
 use Rattle.solution.proofs.Reading.{text_open, text_none, text_value}
 use Rattle.solution.proofs.read_text.Goals as goal
 
@@ -9,13 +7,10 @@ pub returns-then-text-end : goal.returns-then-text-end
 returns-then-text-end c = let a = c.args in
     text_open a.tails.now a.heads.now a.capacities.now a.text.now a.flow.now c.find-end.result c.find-end.ensures _ c.not_read.ensures c.if-text-end.true
 
-pub slice_bounds-number_behind-end : goal.slice_bounds-number_behind-end
-slice_bounds-number_behind-end c = sym (length-take-le _ _ (omega arith))
-
 pub returns-in_default : goal.returns-in_default
 returns-in_default c = let a = c.args in
     text_none a.tails.now a.heads.now a.capacities.now a.text.now a.flow.now c.find-end.result c.find-end.ensures _ c.not_read-in_default.ensures c.if-text-end.false (sym c.number_behind-said.ensures ∙ c.in_default.is)
 
 pub returns : goal.returns
 returns c = let a = c.args in
-    c.read_row.ensures ∙ text_value a.tails.now a.heads.now a.capacities.now a.text.now a.flow.now c.find-end.result c.find-end.ensures c.in-Value.value c.if-text-end.false (sym c.number_behind-said.ensures ∙ c.in-Value.is)
+    c.read_row.ensures ∙ text_value a.tails.now a.heads.now a.capacities.now a.text.now a.flow.now c.find-end.result c.find-end.ensures c.in-Some.value c.if-text-end.false (sym c.number_behind-said.ensures ∙ c.in-Some.is)

@@ -25,9 +25,9 @@ returns-then-x c =
       eq-eqb _ _ c.if-x.true,
     ))
 
-pub returns : goal.returns
+pub returns-else-x : goal.returns-else-x
 unfolding relation_at
-returns c =
+returns-else-x c =
     let apart = c.if-x-eq0.false in
     compared_so _ _ _
     (simp (

@@ -8,7 +8,7 @@ returns-then-a-eq0 c =
     let given = c.args in
     c.count_solved.ensures ∙ sym (solved_day given.tally given.day given.a c.if-a-eq0.true)
 
-pub returns : goal.returns
-returns c =
+pub returns-else-a-eq0 : goal.returns-else-a-eq0
+returns-else-a-eq0 c =
     let given = c.args in
     sym (refused_day given.tally given.day given.a c.if-a-eq0.false)

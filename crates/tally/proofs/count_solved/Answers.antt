@@ -7,7 +7,7 @@ returns-then-is_lower c =
     let given = c.args in
     counted_lower given.tally given.day given.value c.is_lower.ensures c.if-is_lower.true
 
-pub returns : goal.returns
-returns c =
+pub returns-else-is_lower : goal.returns-else-is_lower
+returns-else-is_lower c =
     let given = c.args in
     counted_higher given.tally given.day given.value c.is_lower.ensures c.if-is_lower.false

@@ -2,7 +2,7 @@
 use Prim.Native.Nat.{ℕ}
 use mathlib.Core.Path.{◌≡◌}
 use mathlib.Core.List.{List}
-use Rattle.scan.specs.declared.Number.TheVariants.{Value}
+use Rattle.std.specs.Prelude.{Some}
 use Rattle.scan.specs.Parts.{fields}
 use Rattle.scan.specs.Fields.{number_at}
 use Rattle.text.specs.Lines.{arc_of, arc_from}
@@ -20,7 +20,7 @@ unfolding arc_from arc_of
 returns-in_default-number_at c =
     let line_of : List ℕ = c.args.line.now in
     let by_minimum : arc_of (fields line_of) ≡ arc_from c.said_minimum.result (number_at line_of 1) (number_at line_of 2) (number_at line_of 3) = simp (← c.said_minimum.ensures) in
-    let by_tail : let line = line_of in arc_of (fields line) ≡ arc_from (Value c.in-Value.minimum) c.number_at.result (number_at line 2) (number_at line 3) = simp (by_minimum, c.in-Value.is, ← c.number_at.ensures) in
+    let by_tail : let line = line_of in arc_of (fields line) ≡ arc_from (Some c.in-Some.minimum) c.number_at.result (number_at line 2) (number_at line 3) = simp (by_minimum, c.in-Some.is, ← c.number_at.ensures) in
     simp (by_tail, c.in_default-number_at.is)
 
 pub returns-in_default-number_at-2 : goal.returns-in_default-number_at-2
@@ -28,8 +28,8 @@ unfolding arc_from arc_of
 returns-in_default-number_at-2 c =
     let line_of : List ℕ = c.args.line.now in
     let by_minimum : arc_of (fields line_of) ≡ arc_from c.said_minimum.result (number_at line_of 1) (number_at line_of 2) (number_at line_of 3) = simp (← c.said_minimum.ensures) in
-    let by_tail : let line = line_of in arc_of (fields line) ≡ arc_from (Value c.in-Value.minimum) c.number_at.result (number_at line 2) (number_at line 3) = simp (by_minimum, c.in-Value.is, ← c.number_at.ensures) in
-    let by_head : let line = line_of in arc_of (fields line) ≡ arc_from (Value c.in-Value.minimum) (Value c.in-Value-number_at.tail) c.number_at-2.result (number_at line 3) = simp (by_tail, c.in-Value-number_at.is, ← c.number_at-2.ensures) in
+    let by_tail : let line = line_of in arc_of (fields line) ≡ arc_from (Some c.in-Some.minimum) c.number_at.result (number_at line 2) (number_at line 3) = simp (by_minimum, c.in-Some.is, ← c.number_at.ensures) in
+    let by_head : let line = line_of in arc_of (fields line) ≡ arc_from (Some c.in-Some.minimum) (Some c.in-Some-number_at.tail) c.number_at-2.result (number_at line 3) = simp (by_tail, c.in-Some-number_at.is, ← c.number_at-2.ensures) in
     simp (by_head, c.in_default-number_at-2.is)
 
 pub returns-in_default-number_at-3 : goal.returns-in_default-number_at-3
@@ -37,9 +37,9 @@ unfolding arc_from arc_of
 returns-in_default-number_at-3 c =
     let line_of : List ℕ = c.args.line.now in
     let by_minimum : arc_of (fields line_of) ≡ arc_from c.said_minimum.result (number_at line_of 1) (number_at line_of 2) (number_at line_of 3) = simp (← c.said_minimum.ensures) in
-    let by_tail : let line = line_of in arc_of (fields line) ≡ arc_from (Value c.in-Value.minimum) c.number_at.result (number_at line 2) (number_at line 3) = simp (by_minimum, c.in-Value.is, ← c.number_at.ensures) in
-    let by_head : let line = line_of in arc_of (fields line) ≡ arc_from (Value c.in-Value.minimum) (Value c.in-Value-number_at.tail) c.number_at-2.result (number_at line 3) = simp (by_tail, c.in-Value-number_at.is, ← c.number_at-2.ensures) in
-    let by_capacity : arc_of (fields line_of) ≡ arc_from (Value c.in-Value.minimum) (Value c.in-Value-number_at.tail) (Value c.in-Value-number_at-2.head) c.number_at-3.result = simp (by_head, c.in-Value-number_at-2.is, ← c.number_at-3.ensures) in
+    let by_tail : let line = line_of in arc_of (fields line) ≡ arc_from (Some c.in-Some.minimum) c.number_at.result (number_at line 2) (number_at line 3) = simp (by_minimum, c.in-Some.is, ← c.number_at.ensures) in
+    let by_head : let line = line_of in arc_of (fields line) ≡ arc_from (Some c.in-Some.minimum) (Some c.in-Some-number_at.tail) c.number_at-2.result (number_at line 3) = simp (by_tail, c.in-Some-number_at.is, ← c.number_at-2.ensures) in
+    let by_capacity : arc_of (fields line_of) ≡ arc_from (Some c.in-Some.minimum) (Some c.in-Some-number_at.tail) (Some c.in-Some-number_at-2.head) c.number_at-3.result = simp (by_head, c.in-Some-number_at-2.is, ← c.number_at-3.ensures) in
     simp (by_capacity, c.in_default-number_at-3.is)
 
 pub returns : goal.returns
@@ -47,7 +47,7 @@ unfolding arc_from arc_of
 returns c =
     let line_of : List ℕ = c.args.line.now in
     let by_minimum : arc_of (fields line_of) ≡ arc_from c.said_minimum.result (number_at line_of 1) (number_at line_of 2) (number_at line_of 3) = simp (← c.said_minimum.ensures) in
-    let by_tail : let line = line_of in arc_of (fields line) ≡ arc_from (Value c.in-Value.minimum) c.number_at.result (number_at line 2) (number_at line 3) = simp (by_minimum, c.in-Value.is, ← c.number_at.ensures) in
-    let by_head : let line = line_of in arc_of (fields line) ≡ arc_from (Value c.in-Value.minimum) (Value c.in-Value-number_at.tail) c.number_at-2.result (number_at line 3) = simp (by_tail, c.in-Value-number_at.is, ← c.number_at-2.ensures) in
-    let by_capacity : arc_of (fields line_of) ≡ arc_from (Value c.in-Value.minimum) (Value c.in-Value-number_at.tail) (Value c.in-Value-number_at-2.head) c.number_at-3.result = simp (by_head, c.in-Value-number_at-2.is, ← c.number_at-3.ensures) in
-    simp (by_capacity, c.in-Value-number_at-3.is)
+    let by_tail : let line = line_of in arc_of (fields line) ≡ arc_from (Some c.in-Some.minimum) c.number_at.result (number_at line 2) (number_at line 3) = simp (by_minimum, c.in-Some.is, ← c.number_at.ensures) in
+    let by_head : let line = line_of in arc_of (fields line) ≡ arc_from (Some c.in-Some.minimum) (Some c.in-Some-number_at.tail) c.number_at-2.result (number_at line 3) = simp (by_tail, c.in-Some-number_at.is, ← c.number_at-2.ensures) in
+    let by_capacity : arc_of (fields line_of) ≡ arc_from (Some c.in-Some.minimum) (Some c.in-Some-number_at.tail) (Some c.in-Some-number_at-2.head) c.number_at-3.result = simp (by_head, c.in-Some-number_at-2.is, ← c.number_at-3.ensures) in
+    simp (by_capacity, c.in-Some-number_at-3.is)

@@ -27,7 +27,7 @@ unfolding end_of end_from
 returns-then-has_letter c =
     let line_of : List ℕ = c.args.line.now in
     let by_id : let field = field_at line_of 2 in end_of (fields line_of) ≡ end_from (is_letter (code "s") field) (is_letter (code "t") field) c.number_at.result = simp (← c.field_count.ensures, eq-eqb c.field_count.result 3 c.if-field_count-ne3.false, ← c.number_at.ensures) in
-    let by_letter : let line = line_of in let id = c.in-Value.id in end_of (fields line) ≡ cond c.has_letter.result (Source id) (cond (is_letter (code "t") (field_at line 2)) (Sink id) Other) = simp (by_id, c.in-Value.is, ← c.has_letter.ensures) in
+    let by_letter : let line = line_of in let id = c.in-Some.id in end_of (fields line) ≡ cond c.has_letter.result (Source id) (cond (is_letter (code "t") (field_at line 2)) (Sink id) Other) = simp (by_id, c.in-Some.is, ← c.has_letter.ensures) in
     simp (by_letter, c.if-has_letter.true)
 
 pub returns-then-has_letter-2 : goal.returns-then-has_letter-2
@@ -35,7 +35,7 @@ unfolding end_of end_from
 returns-then-has_letter-2 c =
     let line_of : List ℕ = c.args.line.now in
     let by_id : let field = field_at line_of 2 in end_of (fields line_of) ≡ end_from (is_letter (code "s") field) (is_letter (code "t") field) c.number_at.result = simp (← c.field_count.ensures, eq-eqb c.field_count.result 3 c.if-field_count-ne3.false, ← c.number_at.ensures) in
-    let by_letter : let line = line_of in let id = c.in-Value.id in end_of (fields line) ≡ cond c.has_letter.result (Source id) (cond (is_letter (code "t") (field_at line 2)) (Sink id) Other) = simp (by_id, c.in-Value.is, ← c.has_letter.ensures) in
+    let by_letter : let line = line_of in let id = c.in-Some.id in end_of (fields line) ≡ cond c.has_letter.result (Source id) (cond (is_letter (code "t") (field_at line 2)) (Sink id) Other) = simp (by_id, c.in-Some.is, ← c.has_letter.ensures) in
     simp (by_letter, c.if-has_letter.false, ← c.has_letter-2.ensures, c.if-has_letter-2.true)
 
 pub returns : goal.returns
@@ -43,5 +43,5 @@ unfolding end_of end_from
 returns c =
     let line_of : List ℕ = c.args.line.now in
     let by_id : let field = field_at line_of 2 in end_of (fields line_of) ≡ end_from (is_letter (code "s") field) (is_letter (code "t") field) c.number_at.result = simp (← c.field_count.ensures, eq-eqb c.field_count.result 3 c.if-field_count-ne3.false, ← c.number_at.ensures) in
-    let by_letter : let line = line_of in let id = c.in-Value.id in end_of (fields line) ≡ cond c.has_letter.result (Source id) (cond (is_letter (code "t") (field_at line 2)) (Sink id) Other) = simp (by_id, c.in-Value.is, ← c.has_letter.ensures) in
+    let by_letter : let line = line_of in let id = c.in-Some.id in end_of (fields line) ≡ cond c.has_letter.result (Source id) (cond (is_letter (code "t") (field_at line 2)) (Sink id) Other) = simp (by_id, c.in-Some.is, ← c.has_letter.ensures) in
     simp (by_letter, c.if-has_letter.false, ← c.has_letter-2.ensures, c.if-has_letter-2.false)

@@ -4,7 +4,7 @@ use mathlib.Core.Path.{◌≡◌}
 use mathlib.Core.Bool.{cond}
 use mathlib.Core.List.{List}
 use borrow.Author.Tests.{eq-eqb, ne_eqb}
-use Rattle.scan.specs.declared.Number.TheVariants.{Value}
+use Rattle.std.specs.Prelude.{Some}
 use Rattle.scan.specs.Parts.{fields}
 use Rattle.scan.specs.Fields.{number_at}
 use Rattle.text.specs.declared.Kind.TheVariants.{Other}
@@ -36,7 +36,7 @@ returns-in_default-number_at c =
     let line_of : List ℕ = c.args.line.now in
     let by_bytes : let line = line_of in problem_of (fields line) ≡ cond c.has_bytes.result (problem_from (number_at line 2) (number_at line 3)) Other = simp (← c.field_count.ensures, eq-eqb c.field_count.result 4 c.if-field_count-ne4.false, ← c.has_bytes.ensures) in
     let by_n : let line = line_of in problem_of (fields line) ≡ problem_from c.number_at.result (number_at line 3) = simp (by_bytes, c.if-not-has_bytes.false, ← c.number_at.ensures) in
-    let by_m : problem_of (fields line_of) ≡ problem_from (Value c.in-Value.n) c.number_at-2.result = simp (by_n, c.in-Value.is, ← c.number_at-2.ensures) in
+    let by_m : problem_of (fields line_of) ≡ problem_from (Some c.in-Some.n) c.number_at-2.result = simp (by_n, c.in-Some.is, ← c.number_at-2.ensures) in
     simp (by_m, c.in_default-number_at.is)
 
 pub returns : goal.returns
@@ -45,5 +45,5 @@ returns c =
     let line_of : List ℕ = c.args.line.now in
     let by_bytes : let line = line_of in problem_of (fields line) ≡ cond c.has_bytes.result (problem_from (number_at line 2) (number_at line 3)) Other = simp (← c.field_count.ensures, eq-eqb c.field_count.result 4 c.if-field_count-ne4.false, ← c.has_bytes.ensures) in
     let by_n : let line = line_of in problem_of (fields line) ≡ problem_from c.number_at.result (number_at line 3) = simp (by_bytes, c.if-not-has_bytes.false, ← c.number_at.ensures) in
-    let by_m : problem_of (fields line_of) ≡ problem_from (Value c.in-Value.n) c.number_at-2.result = simp (by_n, c.in-Value.is, ← c.number_at-2.ensures) in
-    simp (by_m, c.in-Value-number_at.is)
+    let by_m : problem_of (fields line_of) ≡ problem_from (Some c.in-Some.n) c.number_at-2.result = simp (by_n, c.in-Some.is, ← c.number_at-2.ensures) in
+    simp (by_m, c.in-Some-number_at.is)

@@ -1,0 +1,7 @@
+-- `from_bytes` meets its contract: the library reads the bytes so.
+use mathlib.Core.Path.{◌∙◌}
+use Rattle.little.proofs.Bytes.{four_read}
+use Rattle.codec.proofs.U32Little.from_bytes.Goals as goal
+
+pub returns : goal.returns
+returns c = c.from_le_bytes.ensures ∙ four_read c.args.bytes.now c.requires
