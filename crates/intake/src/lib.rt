@@ -5,7 +5,8 @@ ghost use Rattle.std.specs.Prelude.{◌≡◌};
 ghost use Rattle.minimums.specs.BoundedTable.{bounded_in};
 ghost use Rattle.intake.specs.Verdict.{text_verdict};
 
-use table::{LentTable, Name, Refusal};
+use minimums::LentBounded;
+use table::{Name, Refusal};
 
 // The first refusal before a text of this length is read against a table, if any; `room` is whether the row that its caller lends is long enough.
 pub fn text_verdict(bounded: &LentBounded, text: usize, room: bool) -> Result<(), Refusal>
@@ -15,8 +16,8 @@ pub fn text_verdict(bounded: &LentBounded, text: usize, room: bool) -> Result<()
         return Err(Name::Long.at(0));
     }
     minimums::plain_check(bounded, true)?;
-    if room {
-        return Ok(());
+    if !room {
+        return Err(Name::Room.at(0));
     }
-    Err(Name::Room.at(0))
+    Ok(())
 }

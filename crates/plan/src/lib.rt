@@ -19,6 +19,7 @@ ghost use Rattle.plan.specs.Checking.{checked_with, lines_verdict, Answers, Chec
 ghost use Rattle.plan.specs.Rows.{Adds, TookAll, IsBelow, AtMost, Rows, HoldsAt, IsEven, IsKept, Decides};
 
 use amounts::Kind;
+use minimums::LentBounded;
 use table::{LentTable, Name, Refusal};
 
 // What checking returns: a refusal's number and place, or 0 with 1 where the plan is full, else 0.
@@ -172,7 +173,7 @@ fn cut_capacity(table: &LentTable, side: &[u8]) -> u64
     ensures { result ≡ leaving (network_of (table_in table.now)) (marked side.now) (at_place table.now.capacities.now) }
 {
     let mut total: u64 = 0;
-    for place in 0..capacities.len() {
+    for place in 0..table.capacities.len() {
         total += crossing(
             side,
             table.tails[place],
@@ -232,14 +233,16 @@ fn is_full(table: &LentTable, text: &[u8], value: u32, side: &[u8]) -> bool
 
 // ---- the call
 
-// What is returned of a refusal.
-fn not_checked(name: Name, place: u32) -> Checked
-    ensures { result ≡ checked_with (number_of name) place 0 }
-{
-    Checked {
-        refusal: table::number(name),
-        place,
-        full: 0,
+// The answer of a refusal: its number and place, other fields 0.
+impl From<Refusal> for Checked {
+    ghost from_gives = { λ r answer. answer ≡ checked_with (number_of r.name) r.place 0 };
+
+    fn from(refusal: Refusal) -> Checked {
+        Checked {
+            refusal: refusal.name.number(),
+            place: refusal.place,
+            full: 0,
+        }
     }
 }
 
@@ -251,7 +254,7 @@ fn check_text(table: &LentTable, text: &[u8], side: &[u8]) -> Checked
         Answers (lines_verdict said) said table text.now side.now result }
 {
     match amounts::judge_lines(text) {
-        Err(fault) => not_checked(Name::Solution, fault.line),
+        Err(fault) => Name::Solution.at(fault.line).into(),
         Ok(value) => Checked {
             refusal: 0,
             place: 0,
@@ -269,7 +272,7 @@ pub fn check_plan(bounded: &LentBounded, text: &[u8], side: &[u8]) -> Checked
         text.len(),
         (bounded.table.nodes as usize) <= side.len(),
     ) {
-        Err(refusal) => not_checked(name, place),
+        Err(refusal) => refusal.into(),
         Ok(()) => check_text(&bounded.table, text, side),
     }
 }

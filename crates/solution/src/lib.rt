@@ -9,12 +9,13 @@ ghost use Rattle.pen.specs.Printed.{printed};
 ghost use Rattle.pen.specs.Wrote.{Wrote};
 ghost use Rattle.wording.specs.Text.{line_of, flow_front, flow_lines};
 ghost use Rattle.wording.specs.Lines.{number_behind, flows_said, words_of, text_words};
-ghost use Rattle.solution.specs.Writing.{has_text_room, first_above, numbers_verdict, writing_verdict, writing};
+ghost use Rattle.solution.specs.Writing.{written_with, has_text_room, first_above, numbers_verdict, writing_verdict, writing};
 ghost use Rattle.solution.specs.Writing.{left as leftWritten};
 ghost use Rattle.solution.specs.Reading.{back_with, left_by, reading};
 ghost use Rattle.solution.specs.Reading.{left as leftRead};
 ghost use Rattle.solution.specs.Rows.{ArcsWith, Finds};
 
+use minimums::LentBounded;
 use scan::Fault;
 use table::{LentTable, Name, Refusal};
 
@@ -34,6 +35,19 @@ pub struct ReadBack {
     pub refusal: u32,
     pub place: u32,
     pub value: u64,
+}
+
+// The answer of a refusal: its number and place, other fields 0.
+impl From<Refusal> for Written {
+    ghost from_gives = { λ r answer. answer ≡ written_with (number_of r.name) r.place 0 };
+
+    fn from(refusal: Refusal) -> Written {
+        Written {
+            refusal: refusal.name.number(),
+            place: refusal.place,
+            filled: 0,
+        }
+    }
 }
 
 // ---- writing
@@ -160,13 +174,9 @@ pub fn write(bounded: &LentBounded, value: u64, flow: &[u32], text: &mut [u8]) -
     ensures { leftWritten result text.new ≡ writing (bounded_in bounded.now) value flow.now text.old }
 {
     match writing_verdict(bounded, value, flow, text.len()) {
-        Err(refusal) => Written {
-            refusal: table::number(name),
-            place,
-            filled: 0,
-        },
+        Err(refusal) => refusal.into(),
         Ok(()) => {
-            let lines = pen::put_line(text, 0, b"bounded.table.source ", value);
+            let lines = pen::put_line(text, 0, b"s ", value);
             let end = put_flows(text, lines, bounded.table.tails, bounded.table.heads, flow);
             Written {
                 refusal: 0,
@@ -236,14 +246,16 @@ fn read_flows(
     Ok(())
 }
 
-// What is returned of a refusal.
-fn not_read(name: Name, place: u32) -> ReadBack
-    ensures { result ≡ back_with (number_of name) place 0 }
-{
-    ReadBack {
-        refusal: table::number(name),
-        place,
-        value: 0,
+// The answer of a refusal: its number and place, other fields 0.
+impl From<Refusal> for ReadBack {
+    ghost from_gives = { λ r answer. answer ≡ back_with (number_of r.name) r.place 0 };
+
+    fn from(refusal: Refusal) -> ReadBack {
+        ReadBack {
+            refusal: refusal.name.number(),
+            place: refusal.place,
+            value: 0,
+        }
     }
 }
 
@@ -263,7 +275,7 @@ fn read_row(
 {
     let mut row = [0u32; 4096];
     match read_flows(text, from, tails, heads, capacities, &mut row) {
-        Err(fault) => not_read(Name::Solution, fault.line),
+        Err(fault) => Name::Solution.at(fault.line).into(),
         Ok(()) => {
             let m = tails.len();
             rows::store(flow, 0, &row[..m]);
@@ -289,11 +301,11 @@ fn read_text(
 {
     let end = scan::find(text, b'\n', 0);
     if text.len() <= end {
-        return not_read(Name::Solution, 1);
+        return Name::Solution.at(1).into();
     }
     let said = number_behind(&text[..end], b"s ", 4096000000);
     let Some(value) = said else {
-        return not_read(Name::Solution, 1);
+        return Name::Solution.at(1).into();
     };
     read_row(text, end + 1, tails, heads, capacities, value, flow)
 }
@@ -307,7 +319,7 @@ pub fn read(bounded: &LentBounded, text: &[u8], flow: &mut [u32]) -> ReadBack
         text.len(),
         bounded.table.capacities.len() <= flow.len(),
     ) {
-        Err(refusal) => not_read(name, place),
+        Err(refusal) => refusal.into(),
         Ok(()) => read_text(
             bounded.table.tails,
             bounded.table.heads,

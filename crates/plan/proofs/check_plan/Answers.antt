@@ -13,7 +13,7 @@ pub returns-in-Err : goal.returns-in-Err
 returns-in-Err c =
     let table : BoundedTable = let a = c.args in bounded_in a.bounded.now in
     let a = c.args in
-    plan_refused table a.text.now a.side.now _ c.text_verdict.ensures _ _ _ c.in-Err.is c.not_checked.ensures
+    plan_refused table a.text.now a.side.now _ c.text_verdict.ensures _ _ _ c.in-Err.is c.into.ensures
 
 pub returns-in-Ok : goal.returns-in-Ok
 returns-in-Ok c =

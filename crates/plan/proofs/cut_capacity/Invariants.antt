@@ -10,4 +10,4 @@ use Rattle.plan.proofs.cut_capacity.Given as goal
 abbrev pub invariant-loop-place : goal.invariant-loop-place
 invariant-loop-place l =
     (l.total ≤ l.place * 1000000)
-    × (l.total ≡ sum l.place (λ k. only (marked l.side (at_place l.tails k) && not (marked l.side (at_place l.heads k))) (at_place l.capacities k)))
+    × (l.total ≡ sum l.place (λ k. only (marked l.side (at_place l.table.tails.now k) && not (marked l.side (at_place l.table.heads.now k))) (at_place l.table.capacities.now k)))

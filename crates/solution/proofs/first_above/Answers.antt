@@ -6,7 +6,7 @@ use Rattle.solution.proofs.first_above.Goals as goal
 pub returns-then-capacities-place : goal.returns-then-capacities-place
 returns-then-capacities-place c =
     let a = c.args in
-    sym (c.loop-place.invariant ∙ above_here a.capacities.now a.flow.now c.loop-place.place (omega arith) (omega arith) c.if-capacities-place.true)
+    rw c.at.ensures (sym (c.loop-place.invariant ∙ above_here a.capacities.now a.flow.now c.loop-place.place (omega arith) (omega arith) c.if-capacities-place.true))
 
 pub loop-place-preserved : goal.loop-place-preserved
 loop-place-preserved c =

@@ -7,14 +7,14 @@ use mathlib.Core.Path.{◌∙◌}
 use borrow.Author.Tests.{lt-leb}
 use Rattle.solution.proofs.has_text_room.Goals as goal
 
-pub returns-else-capacities-flow : goal.returns-else-capacities-flow
-returns-else-capacities-flow c =
+pub returns-else-table-flow : goal.returns-else-table-flow
+returns-else-table-flow c =
     let a = c.args in
-    lt-leb _ _ c.if-capacities-flow.false ∙ flow_short (table_in a.table.now) a.value a.flow.now a.text c.if-capacities-flow.false
+    lt-leb _ _ c.if-table-flow.false ∙ flow_short (table_in a.table.now) a.value a.flow.now a.text c.if-table-flow.false
 
-pub returns-then-capacities-flow : goal.returns-then-capacities-flow
-returns-then-capacities-flow c =
+pub returns-then-table-flow : goal.returns-then-table-flow
+returns-then-table-flow c =
     let a = c.args in
     let table = table_in a.table.now in
-    flow_long table a.value a.flow.now a.text c.if-capacities-flow.true _
+    flow_long table a.value a.flow.now a.text c.if-table-flow.true _
     (omega (arith, c.digit_count.ensures.0, c.lines_length.ensures.0, text_bytes table a.value a.flow.now))

@@ -16,7 +16,7 @@ pub returns-in-Err : goal.returns-in-Err
 returns-in-Err c =
     let table : BoundedTable = let a = c.args in bounded_in a.bounded.now in
     let a = c.args in
-    reading_refused table a.text.now a.flow.now _ c.text_verdict.ensures c.not_read.result _ _ c.in-Err.is c.not_read.ensures
+    reading_refused table a.text.now a.flow.now _ c.text_verdict.ensures c.into.result _ _ c.in-Err.is c.into.ensures
 
 pub returns-in-Ok : goal.returns-in-Ok
 returns-in-Ok c =

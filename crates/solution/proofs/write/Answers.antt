@@ -18,7 +18,7 @@ pub returns-in-Err : goal.returns-in-Err
 returns-in-Err c =
     let table : BoundedTable = let a = c.args in bounded_in a.bounded.now in
     let a = c.args in
-    writing_refused table a.value a.flow.now a.text.now _ c.writing_verdict.ensures _ _ _ c.in-Err.is (ap (λ (x : ℕ). written_with x c.in-Err.place 0) c.number.ensures)
+    writing_refused table a.value a.flow.now a.text.now _ c.writing_verdict.ensures _ _ _ c.in-Err.is c.into.ensures
 
 pub returns-in-Ok : goal.returns-in-Ok
 returns-in-Ok c =
