@@ -9,7 +9,8 @@ use native.Mathlib.Omega.{arith}
 use lib.Dec.{leb, ltb, eqb, lit≤}
 use lib.ListN.{length, get_or, drop}
 use borrow.Author.Tests.{leb-true, eqb-true, ne_eqb}
-use Rattle.std.specs.Prelude.{Option, Some, None}
+use Rattle.std.specs.Prelude.{Option, Some, None, Ok, Err}
+use Rattle.table.specs.Checks.{refusal_at}
 use Rattle.rows.proofs.Sums.{both_true}
 use Rattle.minimums.specs.declared.Arc.{Arc}
 use Rattle.table.specs.declared.Name.TheVariants.{Long}
@@ -20,13 +21,8 @@ use Rattle.scan.specs.Fields.{is_letter}
 use Rattle.text.specs.declared.Kind.{Kind}
 use Rattle.text.specs.declared.Kind.TheVariants.{Comment, Other}
 use Rattle.text.specs.declared.Progress.{Progress}
-use Rattle.text.specs.declared.Step.{Step}
-use Rattle.text.specs.declared.Step.TheVariants.{On, Stop}
-use Rattle.text.specs.declared.Judged.{Judged}
-use Rattle.text.specs.declared.Judged.TheVariants.{Table, Fault}
-use Rattle.text.specs.declared.Given.{Given}
-use Rattle.text.specs.declared.Given.TheVariants.{Read, Refusal}
-use Rattle.text.specs.Lines.{problem_from, problem_of, end_from, end_of, arc_from, minimum_in, arc_of, kind_from, kind_of, step_of, onwards, fresh, judge, arc_in, arcs_of}
+use Rattle.text.specs.declared.Header.{Header}
+use Rattle.text.specs.Lines.{Given, Step, problem_from, problem_of, end_from, end_of, arc_from, minimum_in, arc_of, kind_from, kind_of, step_of, onwards, fresh, judge, arc_in, arcs_of}
 use Rattle.text.specs.Reading.{table_verdict, after_judging, given_by}
 use Rattle.text.specs.Former.{former_fields, former_problem, former_arc, former_kind, former_judge, former_arcs, former_after, former_given}
 
@@ -232,20 +228,20 @@ module _ (line : List ℕ) where
       kept_comment (begins_with (bytes "c") line) (kept_problem (begins_with (bytes "p max ") line) refl end)
 
 -- Where the lines behind a line make a table still, so they do with that line, by what it does.
-kept_onwards : (s : Step) (rest : List (List ℕ)) (q : Progress) (place : ℕ)
-    → ((r : Progress) (k : ℕ) → former_judge rest r k ≡ Table q → (judge rest r k ≡ Table q) × (arcs_of rest ≡ former_arcs rest))
-    → onwards s place (former_judge rest) ≡ Table q → (onwards s place (judge rest) ≡ Table q) × (arcs_of rest ≡ former_arcs rest)
+kept_onwards : (s : Step) (rest : List (List ℕ)) (q : Header) (place : ℕ)
+    → ((r : Progress) (k : ℕ) → former_judge rest r k ≡ Ok q → (judge rest r k ≡ Ok q) × (arcs_of rest ≡ former_arcs rest))
+    → onwards s place (former_judge rest) ≡ Ok q → (onwards s place (judge rest) ≡ Ok q) × (arcs_of rest ≡ former_arcs rest)
 unfolding onwards
-kept_onwards (On r) rest q place more e = more r (suc place) e
-kept_onwards (Stop name) rest q place more e = absurd (let z : ◌≡◌ {A = ℕ} 0 1 = cc in omega arith)
+kept_onwards (Ok r) rest q place more e = more r (suc place) e
+kept_onwards (Err name) rest q place more e = absurd (let z : ◌≡◌ {A = ℕ} 0 1 = cc in omega arith)
 
 -- A line not of its form makes no table.
-stops : (p q : Progress) (place : ℕ) (rest : Progress → ℕ → Judged) → onwards (step_of p Other) place rest ≡ Table q → ⊥
+stops : (p : Progress) (q : Header) (place : ℕ) (rest : Progress → ℕ → Given) → onwards (step_of p Other) place rest ≡ Ok q → ⊥
 unfolding onwards step_of
 stops p q place rest e = let z : ◌≡◌ {A = ℕ} 0 1 = cc in omega arith
 
 -- Lines of which the former rule made a table make it still, and have the same arcs.
-kept_judged : (ls : List (List ℕ)) (p q : Progress) (place : ℕ) → former_judge ls p place ≡ Table q → (judge ls p place ≡ Table q) × (arcs_of ls ≡ former_arcs ls)
+kept_judged : (ls : List (List ℕ)) (p : Progress) (q : Header) (place : ℕ) → former_judge ls p place ≡ Ok q → (judge ls p place ≡ Ok q) × (arcs_of ls ≡ former_arcs ls)
 unfolding former_judge judge former_arcs arcs_of
 kept_judged [] p q place e = (e, refl)
 kept_judged (line ∷ rest) p q place e =
@@ -257,30 +253,30 @@ kept_judged (line ∷ rest) p q place e =
     (kept_line line)
 
 -- A text that was read was not too long.
-not_long : (t : Bool) (rest : Given) {n m s k : ℕ} → cond t (Refusal Long 0) rest ≡ Read n m s k → (t ≡ false) × (rest ≡ Read n m s k)
+not_long : (t : Bool) (rest : Given) {h : Header} → cond t (Err (refusal_at Long 0)) rest ≡ Ok h → (t ≡ false) × (rest ≡ Ok h)
 not_long true rest e = absurd (let z : ◌≡◌ {A = ℕ} 0 1 = cc in omega arith)
 not_long false rest e = (refl, e)
 
 -- The lines of a text that was read made a table.
-made_table : (arcs : List Arc) (j : Judged) (tails heads capacities minimums : ℕ) {n m s t : ℕ} → former_after arcs j tails heads capacities minimums ≡ Read n m s t → (p : Progress) × (j ≡ Table p)
+made_table : (arcs : List Arc) (j : Given) (tails heads capacities minimums : ℕ) {h : Header} → former_after arcs j tails heads capacities minimums ≡ Ok h → (k : Header) × (j ≡ Ok k)
 unfolding former_after
-made_table arcs (Table p) tails heads capacities minimums e = (p, refl)
-made_table arcs (Fault name place) tails heads capacities minimums e = absurd (let z : ◌≡◌ {A = ℕ} 0 1 = cc in omega arith)
+made_table arcs (Ok k) tails heads capacities minimums e = (k, refl)
+made_table arcs (Err why) tails heads capacities minimums e = absurd (let z : ◌≡◌ {A = ℕ} 0 1 = cc in omega arith)
 
 -- Lines of which the former rule made a table give what they gave, whatever the checks of the table say.
-kept_given : (ls : List (List ℕ)) (p : Progress) (tails heads capacities minimums : ℕ) → former_judge ls fresh 1 ≡ Table p
+kept_given : (ls : List (List ℕ)) (h : Header) (tails heads capacities minimums : ℕ) → former_judge ls fresh 1 ≡ Ok h
     → (after_judging ls (judge ls fresh 1) tails heads capacities minimums ≡ former_after (former_arcs ls) (former_judge ls fresh 1) tails heads capacities minimums) × (arcs_of ls ≡ former_arcs ls)
 unfolding after_judging table_verdict former_after
-kept_given ls p tails heads capacities minimums table =
-    let (judged, arcs) = kept_judged ls fresh p 1 table in
+kept_given ls h tails heads capacities minimums table =
+    let (judged, arcs) = kept_judged ls fresh h 1 table in
     (rw (judged, table, arcs) refl, arcs)
 
 -- Every text that the former rule accepted gives the same table: the same n, m, s and t, and the same arcs.
-pub former_same : (text : List ℕ) (tails heads capacities minimums : ℕ) {n m s t : ℕ} → former_given text tails heads capacities minimums ≡ Read n m s t
-    → (given_by text tails heads capacities minimums ≡ Read n m s t) × (arcs_of (lines text) ≡ former_arcs (lines text))
+pub former_same : (text : List ℕ) (tails heads capacities minimums : ℕ) {h : Header} → former_given text tails heads capacities minimums ≡ Ok h
+    → (given_by text tails heads capacities minimums ≡ Ok h) × (arcs_of (lines text) ≡ former_arcs (lines text))
 unfolding former_given given_by
 former_same text tails heads capacities minimums e =
     let (fits, read) = not_long (ltb 1048576 (length text)) _ e in
-    let (p, table) = made_table (former_arcs (lines text)) (former_judge (lines text) fresh 1) tails heads capacities minimums read in
-    let (now, arcs) = kept_given (lines text) p tails heads capacities minimums table in
+    let (k, table) = made_table (former_arcs (lines text)) (former_judge (lines text) fresh 1) tails heads capacities minimums read in
+    let (now, arcs) = kept_given (lines text) k tails heads capacities minimums table in
     (rw fits (now ∙ read), arcs)

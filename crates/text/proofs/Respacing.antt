@@ -1,4 +1,5 @@
 -- Texts that differ only in how many separators stand where one stood give the same answer.
+use Rattle.std.specs.Prelude.{Ok, Err}
 use Prim.Native.Nat.{ℕ, suc, ◌≤◌}
 use mathlib.Core.Path.{◌≡◌, refl, sym, ap, ◌∙◌}
 use mathlib.Core.Bool.{cond}
@@ -15,13 +16,8 @@ use Rattle.scan.proofs.Respacing.{respaced_fields, first_byte}
 use Rattle.text.specs.declared.Kind.{Kind}
 use Rattle.text.specs.declared.Kind.TheVariants.{Comment}
 use Rattle.text.specs.declared.Progress.{Progress}
-use Rattle.text.specs.declared.Step.{Step}
-use Rattle.text.specs.declared.Step.TheVariants.{On, Stop}
-use Rattle.text.specs.declared.Judged.{Judged}
-use Rattle.text.specs.Lines.{kind_from, kind_of, step_of, onwards, fresh, judge, arc_in, arcs_of}
+use Rattle.text.specs.Lines.{Given, Step, kind_from, kind_of, step_of, onwards, fresh, judge, arc_in, arcs_of}
 use Rattle.text.specs.Reading.{table_verdict, after_judging, given_by, values_of, row_after, Reads}
-use Rattle.text.specs.declared.Given.{Given}
-use Rattle.text.specs.declared.Judged.TheVariants.{Table, Fault}
 
 -- What a line is hangs on its fields alone.
 kind_by : (line : List ℕ) → kind_of line ≡ cond (begins_with (bytes "c") (get_or (fields line) 0 [])) Comment (kind_from (fields line))
@@ -33,10 +29,10 @@ same_kind : (x y : List ℕ) → fields x ≡ fields y → kind_of x ≡ kind_of
 same_kind x y e = kind_by x ∙ ap (λ (fs : List (List ℕ)). cond (begins_with (bytes "c") (get_or fs 0 [])) Comment (kind_from fs)) e ∙ sym (kind_by y)
 
 -- What a line does, and what the lines behind it do, where they do the same.
-same_onwards : (s : Step) (place : ℕ) (f g : Progress → ℕ → Judged) → ((p : Progress) (k : ℕ) → f p k ≡ g p k) → onwards s place f ≡ onwards s place g
+same_onwards : (s : Step) (place : ℕ) (f g : Progress → ℕ → Given) → ((p : Progress) (k : ℕ) → f p k ≡ g p k) → onwards s place f ≡ onwards s place g
 unfolding onwards
-same_onwards (On p) place f g e = e p (suc place)
-same_onwards (Stop name) place f g e = refl
+same_onwards (Ok p) place f g e = e p (suc place)
+same_onwards (Err name) place f g e = refl
 
 -- No lines are not some.
 no_lines : {A : Type 0} {x : A} {xs : List A} → [] ≡ x ∷ xs → ⊥
@@ -58,11 +54,11 @@ same_judged (x ∷ xs) (y ∷ ys) e =
     )
 
 -- Lines with the same arcs give the same behind their judgement.
-same_after : (xs ys : List (List ℕ)) → arcs_of xs ≡ arcs_of ys → (j : Judged) (tails heads capacities minimums : ℕ)
+same_after : (xs ys : List (List ℕ)) → arcs_of xs ≡ arcs_of ys → (j : Given) (tails heads capacities minimums : ℕ)
     → after_judging xs j tails heads capacities minimums ≡ after_judging ys j tails heads capacities minimums
 unfolding after_judging table_verdict
-same_after xs ys e (Table p) tails heads capacities minimums = rw e refl
-same_after xs ys e (Fault name place) tails heads capacities minimums = refl
+same_after xs ys e (Ok h) tails heads capacities minimums = rw e refl
+same_after xs ys e (Err why) tails heads capacities minimums = refl
 
 -- Texts within 1,048,576 bytes that differ only in their separators give the same, and the same arcs.
 pub respaced_same : {xs ys : List ℕ} → Respaced xs ys → length xs ≤ 1048576 → length ys ≤ 1048576 → (tails heads capacities minimums : ℕ)
