@@ -1,31 +1,31 @@
--- `first_fault` meets its contract: the first fault of all arcs is the first fault of those from `at` on.
-use Prim.Native.Nat.{ℕ}
-use mathlib.Core.Path.{refl, sym, subst, ◌∙◌}
-use mathlib.Core.List.{List}
+-- `first_fault` meets its contract: the first fault of all arcs is the first fault of those that are left.
+use Prim.Native.Nat.{◌+◌}
+use mathlib.Core.Path.{◌≡◌, refl, sym, ap, ◌∙◌}
+use mathlib.Core.List.{◌∷◌}
 use native.Mathlib.Omega.{arith}
-use Rattle.std.specs.Prelude.{Some}
+use lib.ListN.{length}
+use borrow.Author.Rules.{rules}
 use Rattle.table.proofs.Refusing.{handed_on}
-use Rattle.text.specs.Arcs.{Stands}
+use Rattle.text.specs.Arcs.{arcs_left}
 use Rattle.text.proofs.ArcWalk.{fault_none, fault_here, fault_later}
 use Rattle.text.proofs.first_fault.Goals as goal
 
-pub returns-in_err-arc_fault : goal.returns-in_err-arc_fault
-returns-in_err-arc_fault c =
-    let text_at : List ℕ = c.args.text.now in
-    let arc_found : Stands text_at c.loop-arc.at (Some (c.in-Some.arc, c.in-Some.next)) = subst (Stands text_at c.loop-arc.at) c.in-Some.is c.next_arc.ensures in
-    handed_on c.from_residual.result c.from_residual.ensures.1 (λ y is. is) ∙ sym c.in_err-arc_fault.was
-    ∙ sym (c.loop-arc.invariant.2 ∙ fault_here _ _ arc_found.0 c.arc_fault.ensures (rw c.in_err-arc_fault.was refl))
-
-pub loop-arc-preserved : goal.loop-arc-preserved
-loop-arc-preserved c =
-    let text_at : List ℕ = c.args.text.now in
-    let arc_found : Stands text_at c.loop-arc.at (Some (c.in-Some.arc, c.in-Some.next)) = subst (Stands text_at c.loop-arc.at) c.in-Some.is c.next_arc.ensures in (
-      arc_found.2,
-      omega (arith, arc_found),
-      c.loop-arc.invariant.2 ∙ fault_later _ _ arc_found.0 c.arc_fault.ensures (rw c.in_ok-arc_fault.was refl),
+pub loop-place-preserved : goal.loop-place-preserved
+loop-place-preserved c =
+    let left : arcs_left c.loop-place.place-iterator.iter ≡ c.in-Some.arc ∷ arcs_left c.next.new.self.iter = search rules in
+    let here : c.in-Some.place ≡ c.loop-place.place-iterator.count = search rules in
+    let next : c.next.new.self.count ≡ c.loop-place.place-iterator.count + 1 = search rules in
+    let count = ap length left in (
+      omega (arith, c.loop-place.invariant.0, count, next),
+      c.loop-place.invariant.1 ∙ rw (next, ← here) (fault_later _ _ left c.arc_fault.ensures (rw c.in_ok-arc_fault.was refl)),
     )
 
+pub returns-in_err-arc_fault : goal.returns-in_err-arc_fault
+returns-in_err-arc_fault c =
+    let left : arcs_left c.loop-place.place-iterator.iter ≡ c.in-Some.arc ∷ arcs_left c.next.new.self.iter = search rules in
+    let here : c.in-Some.place ≡ c.loop-place.place-iterator.count = search rules in
+    handed_on c.from_residual.result c.from_residual.ensures.1 (λ y is. is) ∙ sym c.in_err-arc_fault.was
+    ∙ sym (c.loop-place.invariant.1 ∙ rw (← here) (fault_here _ _ left c.arc_fault.ensures (rw c.in_err-arc_fault.was refl)))
+
 pub returns : goal.returns
-returns c =
-    let text_at : List ℕ = c.args.text.now in
-    sym (c.loop-arc.invariant.2 ∙ fault_none _ _ (subst (Stands text_at c.loop-arc.at) c.in_default.is c.next_arc.ensures))
+returns c = sym (c.loop-place.invariant.1 ∙ fault_none _ _ (search rules))
