@@ -90,16 +90,7 @@ pub fn solve_filled(
     requires flow_len { (length flow.old ≡ arcs (table_in table.now)) × (table.now.nodes ≤ length side.old) }
     ensures { Filled (table_in table.now) stamp side.old work.old result flow.new side.new work.new }
 {
-    let outcome = work::run(
-        table.nodes,
-        table.source,
-        table.sink,
-        table.tails,
-        table.heads,
-        table.capacities,
-        flow,
-        work,
-    );
+    let outcome = work::run(table, flow, work);
     let value = start::value(table.tails, table.heads, flow, table.source);
     reach::mark(
         table.nodes,
