@@ -3,7 +3,7 @@
 
 ghost use Rattle.std.specs.Prelude.{◌≡◌, ℕ, ◌+◌, ◌-◌, ◌^◌, ◌≤◌, ◌<◌, length, set, replicate};
 ghost use Rattle.rows.specs.Row.{Node, at_node};
-ghost use Rattle.table.specs.Table.{Table, table_in};
+ghost use Rattle.table.specs.Table.{Table, table_in, arcs};
 ghost use Rattle.table.specs.Accepted.{Accepted, ArcRows};
 ghost use Rattle.arcs.specs.Residual.{far, list};
 ghost use Rattle.arcs.specs.Work.{starts_at, entries_at, excess_part, labels_part, looked_part, lists_part, SameLists, InWork, work_need};
@@ -17,6 +17,7 @@ ghost use Rattle.until.specs.Gain.{gain};
 ghost use Rattle.looking.specs.Looked.{Looked, ValidLabels};
 ghost use Rattle.tournament.specs.Tournament.{key, LowLabels, without, AllBut, Chose};
 ghost use Rattle.steps.specs.Rows.{FarEnds, SpotIs};
+ghost use Rattle.start.specs.Sums.{sum_at};
 ghost use Rattle.work.specs.Held.{state_in, run_in, Relabels, brought, Stepped, Ready, FarRow, Between, Underway, RanUntil, Ran};
 
 use run::{Counts, Outcome};
@@ -151,18 +152,7 @@ fn push_from(
     ensures work_value_2 { lists_part table.now.nodes work.new ≡ lists_part table.now.nodes work.old }
 {
     let nodes = table.nodes as usize;
-    steps::push(
-        table.tails,
-        table.capacities,
-        flow,
-        &mut work[0..nodes],
-        delta,
-        table.source,
-        table.sink,
-        i,
-        k,
-        j,
-    )
+    steps::push(table, flow, &mut work[0..nodes], delta, i, k, j)
 }
 
 // Node i's label becomes this one, with the labels part lent.
@@ -379,16 +369,9 @@ fn begin(table: &LentTable, flow: &mut [u32], work: &mut [u32])
 {
     let nodes = table.nodes as usize;
     let end = nodes + nodes;
-    start::start_flow(table.tails, table.capacities, flow, table.source);
-    start::start_excess(
-        table.tails,
-        table.heads,
-        table.capacities,
-        &mut work[0..nodes],
-        table.source,
-        table.sink,
-    );
-    start::start_labels(&mut work[nodes..end], table.source, table.sink);
+    start::start_flow(table, flow);
+    start::start_excess(table, &mut work[0..nodes]);
+    start::start_labels(table, &mut work[nodes..end]);
 }
 
 // K: the number of phases for the excesses that the work row holds after the start.
@@ -420,6 +403,16 @@ fn fill_ends(table: &LentTable, work: &[u32], ends: &mut [u32])
     }
 }
 
+// The net flow into the sink.
+fn into_sink(table: &LentTable, flow: &[u32]) -> u64
+    requires accepted { Accepted (table_in table.now) × (length flow.now ≡ arcs (table_in table.now)) }
+    requires sums { let table = table_in table.now in
+        sum_at table.tails flow.now table.sink (length table.tails) ≤ sum_at table.heads flow.now table.sink (length table.heads) }
+    ensures { result ≡ into_sink (table_in table.now) flow.now }
+{
+    start::sum_at(table.heads, flow, table.sink) - start::sum_at(table.tails, flow, table.sink)
+}
+
 // How many numbers the work row needs.
 pub fn work_need(n: u32, m: usize) -> usize
     requires { m < 2 ^ 61 }
@@ -438,7 +431,7 @@ pub fn run_until(table: &LentTable, q: u64, flow: &mut [u32], work: &mut [u32]) 
     clear_looked(table.nodes, work);
     let count = count_phases(table.nodes, work);
     let d = start::scale(count);
-    let sink = start::value(table.heads, table.tails, flow, table.sink);
+    let sink = into_sink(table, flow);
     let mut tree = [0u32; 1024];
     let mut ends = [0u32; 8192];
     fill_ends(table, work, &mut ends);
