@@ -103,7 +103,7 @@ by_hand = []
 for name, text in src:
     by_hand += [f'{name}: {m}' for m in re.findall(r'rows::wide\(|fn wide\(|fn least\(', text)]
     by_hand += [f'{name}: {m}: {m}' for m in re.findall(r'\b(\w+): \1,', text)]
-    by_hand += [f'{name}: {m}' for m in re.findall(r'#\[derive\(Clone, Copy\)\]\npub (?:struct|enum) \w+(?! *<)', text)]
+    by_hand += [f'{name}: {m}' for m in re.findall(r'#\[derive\(Clone, Copy\)\]\npub (?:struct|enum) \w+(?= \{)', text)]
 tell(4, 'conversions, minima, derives and fields by hand', by_hand)
 refused = [f'{n}: {m}' for n, t in src for m in re.findall(r'fn ((?:refused|not|no|un)\w*)\(name: Name', t)]
 tell(4, 'conversions of a refusal into a result by hand', refused)

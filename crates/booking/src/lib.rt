@@ -23,7 +23,7 @@ use table::{LentTable, Name, Refusal};
 fn returned(refusal: u32, place: u32) -> u64
     ensures { result ≡ returned_of refusal place }
 {
-    rows::wide(refusal) * 4294967296 + rows::wide(place)
+    u64::from(refusal) * 4294967296 + u64::from(place)
 }
 
 // The number returned of a refusal.
@@ -72,10 +72,10 @@ fn write_result(res: &mut [u8], a: Answer)
     ensures { res.new ≡ bytes_of_all 8 (seven a) ++ drop 56 res.old }
 {
     let numbers = [
-        rows::wide(a.stamp),
+        u64::from(a.stamp),
         a.value,
         a.scale,
-        rows::wide(a.phases),
+        u64::from(a.phases),
         a.saturating,
         a.nonsaturating,
         a.relabels,
@@ -188,9 +188,9 @@ fn write_reading(res: &mut [u8], r: Reading)
     ensures { res.new ≡ bytes_of_all 8 (three r) ++ drop 24 res.old }
 {
     let numbers = [
-        rows::wide(r.flow),
-        rows::wide(r.capacity),
-        rows::wide(r.crossing),
+        u64::from(r.flow),
+        u64::from(r.capacity),
+        u64::from(r.crossing),
     ];
     codec::put_all(res, &numbers);
 }

@@ -54,8 +54,8 @@ fn answer_of(stamp: u32, value: u64, outcome: Outcome) -> Answer
     Answer {
         refusal: 0,
         place: 0,
-        stamp: stamp,
-        value: value,
+        stamp,
+        value,
         scale: outcome.scale,
         phases: outcome.phases,
         saturating: counts.saturating,

@@ -10,4 +10,4 @@ use Rattle.booking.proofs.write_reading.Goals as goal
 pub returns : goal.returns
 returns c =
     c.put_all.ensures
-    ∙ ap (λ (l : List ℕ). bytes_of_all 8 l ++ drop 24 c.args.res.now) (three_are c.args.r _ _ _ c.wide.ensures.0 c.wide-2.ensures.0 c.wide-3.ensures.0)
+    ∙ ap (λ (l : List ℕ). bytes_of_all 8 l ++ drop 24 c.args.res.now) (three_are c.args.r _ _ _ c.from.ensures c.from-2.ensures c.from-3.ensures)

@@ -10,4 +10,4 @@ use Rattle.booking.proofs.write_result.Goals as goal
 pub returns : goal.returns
 returns c =
     c.put_all.ensures
-    ∙ ap (λ (l : List ℕ). bytes_of_all 8 l ++ drop 56 c.args.res.now) (seven_are c.args.a _ _ c.wide.ensures.0 c.wide-2.ensures.0)
+    ∙ ap (λ (l : List ℕ). bytes_of_all 8 l ++ drop 56 c.args.res.now) (seven_are c.args.a _ _ c.from.ensures c.from-2.ensures)
