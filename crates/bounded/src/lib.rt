@@ -10,6 +10,8 @@ ghost use Rattle.joining.specs.Joining.{joined_arcs, Small};
 ghost use Rattle.bounded.specs.Solving.{Solvable, OwnRows, Above, Leaves};
 ghost use Rattle.bounded.specs.declared.Bounded.TheVariants.{Value};
 
+use table::LentTable;
+
 // What solving answers: no flow keeps all arcs between their numbers, or the greatest value.
 #[derive(Clone, Copy)]
 pub enum Bounded {
@@ -69,11 +71,23 @@ fn greatest(
     requires work_end_in_bounds { work_end 514 5122 ≤ length lists.old }
     ensures { Leaves (lent_bounded n s t tails heads capacities minimums) flow.old side.old (Value result) flow.new side.new }
 {
+    let table = LentTable {
+        nodes: n,
+        source: s,
+        sink: t,
+        tails,
+        heads,
+        capacities,
+    };
+    let above = LentTable {
+        capacities: spare,
+        ..table
+    };
     add_minimums(more, minimums, flow);
-    arcs::fill_work(n, tails, heads, lists);
+    arcs::fill_work(&table, lists);
     augment::go_on(n, s, t, tails, heads, capacities, minimums, flow, lists);
     take_minimums(flow, minimums, more);
-    reach::mark(n, s, tails, heads, spare, more, lists, side);
+    reach::mark(&above, more, lists, side);
     net_out(tails, heads, flow, s)
 }
 

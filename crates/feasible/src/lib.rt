@@ -8,6 +8,8 @@ ghost use Rattle.joining.specs.Joining.{joined_arcs, JoinedRows};
 ghost use Rattle.feasible.specs.Filling.{Full};
 ghost use Rattle.feasible.specs.Deciding.{Feasible};
 
+use table::LentTable;
+
 // Whether the arcs from place `from` up to place `to` are all full.
 fn all_full(capacities: &[u32], flow: &[u32], from: usize, to: usize) -> bool
     requires { (from ≤ to) × ((to ≤ length capacities.now) × (to ≤ length flow.now)) }
@@ -40,7 +42,15 @@ pub fn feasible(
 {
     let source = n + 1;
     let sink = n + 2;
-    arcs::fill_work(sink, from, to, lists);
+    let joined = LentTable {
+        nodes: sink,
+        source,
+        sink,
+        tails: from,
+        heads: to,
+        capacities: limits,
+    };
+    arcs::fill_work(&joined, lists);
     augment::go_on(sink, source, sink, from, to, limits, none, more, lists);
     let m = capacities.len();
     all_full(limits, more, m, m + (n as usize))

@@ -14,6 +14,7 @@ use Rattle.reach.specs.Side.{side_of}
 use Rattle.reach.proofs.Side.{length_of_side}
 use Rattle.run.proofs.Networks.{accepted_sound}
 use Rattle.arcs.specs.Work.{work_need, InWork}
+use Rattle.arcs.proofs.Work.{in_work_as_many}
 use Rattle.solver.specs.declared.Answer.{Answer}
 use Rattle.solver.specs.Solving.{Left, left, has_room, refusal, answer_with}
 use Rattle.minimums.specs.BoundedTable.{BoundedTable}
@@ -70,8 +71,7 @@ module _ {t : Table} {place new : ℕ} {flow : List ℕ} {side work : ℕ} (open
 
   -- What `go_on_rows` asks, where `row` has the new capacities.
   pub rows_ask : {minimums row lists : List ℕ} → length flow ≡ arcs t → minimums ≡ replicate (arcs t) 0
-      → ((other : List ℕ) → length other ≡ length t.tails → InWork (table_of t.nodes t.source t.sink t.tails t.heads other) lists)
-      → row ≡ set t.capacities place new
+      → InWork t lists → row ≡ set t.capacities place new
       → Accepted (table_of t.nodes t.source t.sink t.tails t.heads row)
       × ((minimums ≡ replicate (length row) 0)
       × (InWork (table_of t.nodes t.source t.sink t.tails t.heads row) lists
@@ -90,7 +90,7 @@ module _ {t : Table} {place new : ℕ} {flow : List ℕ} {side work : ℕ} (open
         (
           none ∙ ap (λ m. replicate m 0) (sym new_many),
           (
-            listed (set t.capacities place new) (new_many ∙ opens.accepted.rows.capacities_long),
+            in_work_as_many listed (set t.capacities place new) (sym new_many),
             (new_flow, (omega (arith, new_many), opens.for_side, omega (arith, new_many, opens.for_work))),
           ),
         ),

@@ -5,7 +5,7 @@ ghost use Rattle.std.specs.Prelude.{◌≡◌, ℕ, ◌<◌, ◌≤◌, List, le
 ghost use Rattle.rows.specs.Row.{Node, at_place, at_node};
 ghost use Rattle.network.specs.Network.{Flow};
 ghost use Rattle.minimums.specs.BoundedTable.{bounded_in};
-ghost use Rattle.table.specs.Table.{table_of, network_of, table_in};
+ghost use Rattle.table.specs.Table.{network_of, table_in};
 ghost use Rattle.table.specs.Accepted.{ArcRows, Accepted};
 ghost use Rattle.reach.specs.Side.{marked, side_of};
 ghost use Rattle.start.specs.Sums.{sum_at};
@@ -99,16 +99,7 @@ fn is_sink_reached(table: &LentTable, flow: &[u32], lists: &[u32], marks: &mut [
     requires capacities_in_bounds { (length table.now.capacities.now ≤ length flow.now) × (table.now.nodes ≤ length marks.old) }
     ensures { result ≡ marked (side_of (table_in table.now) flow.now) table.now.sink }
 {
-    reach::mark(
-        table.nodes,
-        table.source,
-        table.tails,
-        table.heads,
-        table.capacities,
-        flow,
-        lists,
-        marks,
-    );
+    reach::mark(table, flow, lists, marks);
     marks[(table.sink - 1) as usize] == 1
 }
 
@@ -204,22 +195,8 @@ fn go_on_rows(
         flow,
         lists,
     );
-    let value = start::value(
-        bounded.table.tails,
-        bounded.table.heads,
-        flow,
-        bounded.table.source,
-    );
-    reach::mark(
-        bounded.table.nodes,
-        bounded.table.source,
-        bounded.table.tails,
-        bounded.table.heads,
-        bounded.table.capacities,
-        flow,
-        lists,
-        side,
-    );
+    let value = start::value(&bounded.table, flow);
+    reach::mark(&bounded.table, flow, lists, side);
     rows::clear(
         work,
         work::work_need(bounded.table.nodes, bounded.table.capacities.len()),
@@ -249,7 +226,7 @@ fn open_rows(
     work: &mut [u32],
 ) -> Answer
     requires opens { Opens (table_in bounded.now.table) place capacity flow.old (length side.old) (length work.old) }
-    requires by_index { (row : List ℕ) → length row ≡ length bounded.now.table.tails.now → InWork (table_of bounded.now.table.nodes bounded.now.table.source bounded.now.table.sink bounded.now.table.tails.now bounded.now.table.heads.now row) lists.now }
+    requires in_work { InWork (table_in bounded.now.table) lists.now }
     requires len { (length new.old ≡ length bounded.now.table.capacities.now) × (length flow.old ≡ length bounded.now.table.capacities.now)
         × (bounded.now.minimums.now ≡ replicate (length bounded.now.table.capacities.now) 0) }
     ensures { let table = table_in bounded.now.table in
@@ -278,7 +255,7 @@ fn open_table(
     work: &mut [u32],
 ) -> Answer
     requires opens { Opens (table_in table.now) place capacity flow.old (length side.old) (length work.old) }
-    requires by_index { (row : List ℕ) → length row ≡ length table.now.tails.now → InWork (table_of table.now.nodes table.now.source table.now.sink table.now.tails.now table.now.heads.now row) lists.now }
+    requires in_work { InWork (table_in table.now) lists.now }
     ensures { let table = table_in table.now in
         left result flow.new side.new work.new ≡ went_on (opened table place capacity) stamp flow.old side.old work.old }
 {
@@ -320,7 +297,7 @@ fn open_listed(
         left result flow.new side.new work.new
         ≡ opening_as (change_verdict table place capacity flow.old) (opened table place capacity) stamp flow.old side.old work.old }
 {
-    arcs::fill_work(table.nodes, table.tails, table.heads, lists);
+    arcs::fill_work(table, lists);
     match change_verdict(table, place, capacity, flow, lists) {
         Err(refusal) => refusal.into(),
         Ok(()) => open_table(table, stamp, place, capacity, lists, flow, side, work),

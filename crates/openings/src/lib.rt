@@ -101,18 +101,9 @@ fn mark_both(
         × (work_need table.now.nodes (length table.now.capacities.now) ≤ length work.old) }
     ensures { Sides (table_in table.now) stamp result flow.new side.new drains.new }
 {
-    arcs::fill_work(table.nodes, table.tails, table.heads, work);
+    arcs::fill_work(table, work);
     let answer = solver::solve_filled(table, stamp, flow, side, work);
-    reach::mark(
-        table.nodes,
-        table.sink,
-        table.heads,
-        table.tails,
-        table.capacities,
-        flow,
-        work,
-        drains,
-    );
+    reach::mark_sink_side(table, flow, work, drains);
     answer
 }
 

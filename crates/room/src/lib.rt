@@ -65,18 +65,8 @@ fn halt_rows(table: &LentTable, q: u64, flow: &mut [u32], work: &mut [u32]) -> S
     ensures { Halted (table_in table.now) q work.old result work.new }
 {
     let m = table.capacities.len();
-    arcs::fill_work(table.nodes, table.tails, table.heads, work);
-    let stop = work::run_until(
-        table.nodes,
-        table.source,
-        table.sink,
-        table.tails,
-        table.heads,
-        table.capacities,
-        q,
-        &mut flow[..m],
-        work,
-    );
+    arcs::fill_work(table, work);
+    let stop = work::run_until(table, q, &mut flow[..m], work);
     rows::clear(work, room_need(table.nodes, m));
     stop
 }

@@ -34,27 +34,9 @@ fn find_live(
     ensures fact { let table = table_in table.now in
         (take table.nodes ahead.new ≡ from_source table) × (take table.nodes behind.new ≡ to_sink table) }
 {
-    arcs::fill_work(table.nodes, table.tails, table.heads, lists);
-    reach::mark(
-        table.nodes,
-        table.source,
-        table.tails,
-        table.heads,
-        table.capacities,
-        none,
-        lists,
-        ahead,
-    );
-    reach::mark(
-        table.nodes,
-        table.sink,
-        table.heads,
-        table.tails,
-        table.capacities,
-        none,
-        lists,
-        behind,
-    );
+    arcs::fill_work(table, lists);
+    reach::mark(table, none, lists, ahead);
+    reach::mark_sink_side(table, none, lists, behind);
 }
 
 // Solves the smaller table, whose arcs stand first in three rows.
@@ -120,16 +102,7 @@ fn put_all_back(
         flows,
         flow,
     );
-    reach::mark(
-        table.nodes,
-        table.source,
-        table.tails,
-        table.heads,
-        table.capacities,
-        flow,
-        lists,
-        side,
-    );
+    reach::mark(table, flow, lists, side);
     rows::clear(work, work::work_need(table.nodes, table.capacities.len()));
 }
 

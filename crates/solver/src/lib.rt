@@ -90,27 +90,9 @@ pub fn solve_filled(
     requires flow_len { (length flow.old ≡ arcs (table_in table.now)) × (table.now.nodes ≤ length side.old) }
     ensures { Filled (table_in table.now) stamp side.old work.old result flow.new side.new work.new }
 {
-    let outcome = work::run(
-        table.nodes,
-        table.source,
-        table.sink,
-        table.tails,
-        table.heads,
-        table.capacities,
-        flow,
-        work,
-    );
-    let value = start::value(table.tails, table.heads, flow, table.source);
-    reach::mark(
-        table.nodes,
-        table.source,
-        table.tails,
-        table.heads,
-        table.capacities,
-        flow,
-        work,
-        side,
-    );
+    let outcome = work::run(table, flow, work);
+    let value = start::value(table, flow);
+    reach::mark(table, flow, work, side);
     answer_of(stamp, value, outcome)
 }
 
@@ -127,7 +109,7 @@ fn solve_rows(
         × (work_need table.now.nodes (arcs (table_in table.now)) ≤ length work.old) }
     ensures { left result flow.new side.new work.new ≡ solved (table_in table.now) stamp flow.old side.old work.old }
 {
-    arcs::fill_work(table.nodes, table.tails, table.heads, work);
+    arcs::fill_work(table, work);
     let answer = solve_filled(table, stamp, flow, side, work);
     rows::clear(work, work::work_need(table.nodes, table.capacities.len()));
     answer

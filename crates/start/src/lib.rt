@@ -1,33 +1,38 @@
 // The start of the run over bare rows, the scale and the value.
 #![tactic(auto)]
 
-ghost use Rattle.std.specs.Prelude.{◌≡◌, List, ◌++◌, ℕ, ◌+◌, ◌^◌, ◌≤◌, ◌<◌, length, drop};
+ghost use Rattle.std.specs.Prelude.{◌≡◌, ◌++◌, ◌+◌, ◌^◌, ◌≤◌, ◌<◌, length, drop};
 ghost use Rattle.rows.specs.Row.{Node, at_node, by_node};
-ghost use Rattle.table.specs.Table.{table_of, lent_table};
+ghost use Rattle.table.specs.Table.{table_in, arcs};
 ghost use Rattle.table.specs.Accepted.{ArcRows};
 ghost use Rattle.run.specs.Start.{start_flow, start_label_at, start};
 ghost use Rattle.run.specs.Scale.{largest, phases_for, scale_of};
 ghost use Rattle.run.specs.Phase.{value};
 ghost use Rattle.start.specs.Sums.{received, sum_at};
 
+use table::LentTable;
+
 // The start's flow: every arc leaving s is filled, all others are 0. Later places stay.
-pub fn start_flow(tails: &[u32], capacities: &[u32], flow: &mut [u32], s: u32)
-    requires { (length capacities.now ≡ length tails.now) × (length capacities.now ≤ length flow.old) }
-    ensures { (n t : ℕ) (heads : List ℕ)
-        → flow.new ≡ start_flow (table_of n s t tails.now heads capacities.now) ++ drop (length capacities.now) flow.old }
+pub fn start_flow(table: &LentTable, flow: &mut [u32])
+    requires { let table = table_in table.now in (arcs table ≡ length table.tails) × (arcs table ≤ length flow.old) }
+    ensures { let table = table_in table.now in flow.new ≡ start_flow table ++ drop (arcs table) flow.old }
 {
-    for k in 0..capacities.len() {
-        flow[k] = if tails[k] == s { capacities[k] } else { 0 };
+    for k in 0..table.capacities.len() {
+        flow[k] = if table.tails[k] == table.source {
+            table.capacities[k]
+        } else {
+            0
+        };
     }
 }
 
 // Node i's label at the start: the source has n, the sink 0, the others 1.
-fn start_label(n: u32, s: u32, t: u32, i: u32) -> u32
-    ensures { (tails heads capacities : List ℕ) → result ≡ start_label_at (table_of n s t tails heads capacities) i }
+fn start_label(table: &LentTable, i: u32) -> u32
+    ensures { result ≡ start_label_at (table_in table.now) i }
 {
-    if i == s {
-        n
-    } else if i == t {
+    if i == table.source {
+        table.nodes
+    } else if i == table.sink {
         0
     } else {
         1
@@ -35,14 +40,12 @@ fn start_label(n: u32, s: u32, t: u32, i: u32) -> u32
 }
 
 // The start's labels.
-pub fn start_labels(labels: &mut [u32], s: u32, t: u32)
-    requires { length labels.old ≤ 512 }
-    ensures { (tails heads capacities : List ℕ)
-        → labels.new ≡ by_node (start_label_at (table_of (length labels.old) s t tails heads capacities)) (length labels.old) }
+pub fn start_labels(table: &LentTable, labels: &mut [u32])
+    requires { (length labels.old ≡ table.now.nodes) × (table.now.nodes ≤ 512) }
+    ensures { let table = table_in table.now in labels.new ≡ by_node (start_label_at table) table.nodes }
 {
-    let n = labels.len() as u32;
-    for i in 0..n {
-        labels[i as usize] = start_label(n, s, t, i + 1);
+    for i in 0..table.nodes {
+        labels[i as usize] = start_label(table, i + 1);
     }
 }
 
@@ -57,21 +60,15 @@ fn receive(excess: &mut [u32], t: u32, j: u32, c: u32)
 }
 
 // The start's excess: what the filled arcs bring to each node other than source and sink.
-pub fn start_excess(
-    tails: &[u32],
-    heads: &[u32],
-    capacities: &[u32],
-    excess: &mut [u32],
-    s: u32,
-    t: u32,
-)
-    requires { ArcRows (length excess.old) tails.now heads.now capacities.now }
-    ensures { excess.new ≡ (start (lent_table (length excess.old) s t tails heads capacities)).excess }
+pub fn start_excess(table: &LentTable, excess: &mut [u32])
+    requires { let table = table_in table.now in
+        ArcRows table.nodes table.tails table.heads table.capacities × (length excess.old ≡ table.nodes) }
+    ensures { excess.new ≡ (start (table_in table.now)).excess }
 {
     excess.fill(0);
-    for k in 0..capacities.len() {
-        if tails[k] == s {
-            receive(excess, t, heads[k], capacities[k]);
+    for k in 0..table.capacities.len() {
+        if table.tails[k] == table.source {
+            receive(excess, table.sink, table.heads[k], table.capacities[k]);
         }
     }
 }
@@ -117,11 +114,12 @@ pub fn sum_at(ends: &[u32], flow: &[u32], i: u32) -> u64
 }
 
 // The value: the net flow out of the source.
-pub fn value(tails: &[u32], heads: &[u32], flow: &[u32], s: u32) -> u64
-    requires heads_len { (length heads.now ≡ length tails.now) × (length tails.now ≤ length flow.now) × (length tails.now ≤ 4096) }
-    requires heads_bound { sum_at heads.now flow.now s (length heads.now) ≤ sum_at tails.now flow.now s (length tails.now) }
-    ensures { (n t : ℕ) (capacities : List ℕ) → length capacities ≡ length tails.now
-        → result ≡ value (table_of n s t tails.now heads.now capacities) flow.now }
+pub fn value(table: &LentTable, flow: &[u32]) -> u64
+    requires heads_len { let table = table_in table.now in
+        (length table.heads ≡ length table.tails) × (length table.tails ≤ length flow.now) × (length table.tails ≤ 4096) }
+    requires heads_bound { let table = table_in table.now in
+        sum_at table.heads flow.now table.source (length table.heads) ≤ sum_at table.tails flow.now table.source (length table.tails) }
+    ensures { let table = table_in table.now in arcs table ≡ length table.tails → result ≡ value table flow.now }
 {
-    sum_at(tails, flow, s) - sum_at(heads, flow, s)
+    sum_at(table.tails, flow, table.source) - sum_at(table.heads, flow, table.source)
 }

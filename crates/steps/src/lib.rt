@@ -3,7 +3,7 @@
 
 ghost use Rattle.std.specs.Prelude.{◌≡◌, true, List, ℕ, ◌+◌, ◌-◌, ◌*◌, ◌^◌, ◌≤◌, ◌<◌, length};
 ghost use Rattle.rows.specs.Row.{Node, at_place, at_node};
-ghost use Rattle.table.specs.Table.{table_of};
+ghost use Rattle.table.specs.Table.{table_of, table_in};
 ghost use Rattle.table.specs.Accepted.{ArcEnds, ArcRows};
 ghost use Rattle.arcs.specs.Residual.{far, residual};
 ghost use Rattle.run.specs.Push.{eligible, amount, along, moved};
@@ -15,6 +15,7 @@ ghost use Rattle.looking.specs.Looked.{NoneBefore, HighBefore};
 ghost use Rattle.steps.specs.Rows.{touching, AllTouch, Beside, FarEnds, SpotIs, Pushed};
 
 use run::Counts;
+use table::LentTable;
 
 // Where the arc search stopped before the list's end: the position in the node's list, the arc's place that stands there, and the arc's far end.
 #[derive(Clone, Copy, Debug, PartialEq, Eq)]
@@ -268,28 +269,24 @@ fn shift(excess: &mut [u32], s: u32, t: u32, i: u32, j: u32, d: u32)
 
 // A push along place k away from node i, to the arc's far end j; whether it is saturating.
 pub fn push(
-    tails: &[u32],
-    capacities: &[u32],
+    table: &LentTable,
     flow: &mut [u32],
     excess: &mut [u32],
     delta: u64,
-    s: u32,
-    t: u32,
     i: u32,
     k: u32,
     j: u32,
 ) -> bool
-    requires by_index { (heads : List ℕ) × ArcRows (length excess.old) tails.now heads capacities.now
-        × (j ≡ far (table_of (length excess.old) s t tails.now heads capacities.now) i k) }
-    requires within_capacities { WithinCapacities capacities.now flow.old × Node (length excess.old) i × (k < length capacities.now) }
+    requires arc_rows { let table = table_in table.now in
+        ArcRows (length excess.old) table.tails table.heads table.capacities × (j ≡ far table i k) }
+    requires within_capacities { WithinCapacities table.now.capacities.now flow.old × Node (length excess.old) i × (k < length table.now.capacities.now) }
     requires at_most { AtMost delta excess.old × (total excess.old < 2 ^ 32) }
-    ensures { (n : ℕ) (heads label : List ℕ) → (let table = table_of n s t tails.now heads capacities.now in
-        j ≡ far table i k → Pushed table delta (state_of flow.old excess.old label) i k flow.new excess.new result) }
+    ensures { (label : List ℕ) → Pushed (table_in table.now) delta (state_of flow.old excess.old label) i k flow.new excess.new result }
 {
-    let left = residual(tails, capacities, flow, i, k);
-    let d = amount(tails, capacities, flow, excess, delta, i, k, j);
-    send(tails, flow, i, k, d);
-    shift(excess, s, t, i, j, d);
+    let left = residual(table.tails, table.capacities, flow, i, k);
+    let d = amount(table.tails, table.capacities, flow, excess, delta, i, k, j);
+    send(table.tails, flow, i, k, d);
+    shift(excess, table.source, table.sink, i, j, d);
     d == left
 }
 

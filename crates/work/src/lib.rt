@@ -3,7 +3,7 @@
 
 ghost use Rattle.std.specs.Prelude.{◌≡◌, ℕ, ◌+◌, ◌-◌, ◌^◌, ◌≤◌, ◌<◌, length, set, replicate};
 ghost use Rattle.rows.specs.Row.{Node, at_node};
-ghost use Rattle.table.specs.Table.{Table, lent_table, given_table};
+ghost use Rattle.table.specs.Table.{Table, table_in, arcs};
 ghost use Rattle.table.specs.Accepted.{Accepted, ArcRows};
 ghost use Rattle.arcs.specs.Residual.{far, list};
 ghost use Rattle.arcs.specs.Work.{starts_at, entries_at, excess_part, labels_part, looked_part, lists_part, SameLists, InWork, work_need};
@@ -17,10 +17,12 @@ ghost use Rattle.until.specs.Gain.{gain};
 ghost use Rattle.looking.specs.Looked.{Looked, ValidLabels};
 ghost use Rattle.tournament.specs.Tournament.{key, LowLabels, without, AllBut, Chose};
 ghost use Rattle.steps.specs.Rows.{FarEnds, SpotIs};
+ghost use Rattle.start.specs.Sums.{sum_at};
 ghost use Rattle.work.specs.Held.{state_in, run_in, Relabels, brought, Stepped, Ready, FarRow, Between, Underway, RanUntil, Ran};
 
 use run::{Counts, Outcome};
 use steps::{Lowest, Spot};
+use table::LentTable;
 
 // What a step answers beside the rows: the counts, and the node beside the chosen one that it changed (after a relabel that is the chosen one again).
 #[derive(Clone, Copy, Debug, PartialEq, Eq)]
@@ -86,78 +88,54 @@ fn node_ends<'a>(n: u32, work: &[u32], ends: &'a [u32], i: u32) -> &'a [u32]
 }
 
 // The first eligible arc in node i's list, from where the list was looked through to.
-fn search_list(
-    n: u32,
-    tails: &[u32],
-    heads: &[u32],
-    capacities: &[u32],
-    flow: &[u32],
-    work: &[u32],
-    ends: &[u32],
-    i: u32,
-) -> Option<Spot>
-    requires arc_rows { ArcRows n tails.now heads.now capacities.now × WithinCapacities capacities.now flow.now × Node n i }
-    requires by_index { (s t : ℕ) × InWork (given_table n s t tails heads capacities) work.now
-        × Looked (given_table n s t tails heads capacities) (state_in n flow.now work.now) (looked_part n work.now)
-        × FarRow (given_table n s t tails heads capacities) ends.now }
-    ensures { (s t : ℕ) → (let table = lent_table n s t tails heads capacities in
-        let state = state_in n flow.now work.now in
-        InWork table work.now → FarRow table ends.now → Looked table state (looked_part n work.now) → SpotIs table state i (list table i) result) }
+fn search_list(table: &LentTable, flow: &[u32], work: &[u32], ends: &[u32], i: u32) -> Option<Spot>
+    requires arc_rows { let table = table_in table.now in
+        ArcRows table.nodes table.tails table.heads table.capacities × WithinCapacities table.capacities flow.now × Node table.nodes i }
+    requires in_work { let table = table_in table.now in InWork table work.now × FarRow table ends.now }
+    requires looked { let table = table_in table.now in
+        Looked table (state_in table.nodes flow.now work.now) (looked_part table.nodes work.now) }
+    ensures { let table = table_in table.now in
+        SpotIs table (state_in table.nodes flow.now work.now) i (list table i) result }
 {
-    let nodes = n as usize;
+    let nodes = table.nodes as usize;
     let at = nodes + nodes;
     let from = at + (nodes + 1);
     let end = at + (at + 1);
     steps::search(
-        tails,
-        capacities,
+        table.tails,
+        table.capacities,
         flow,
         &work[nodes..at],
-        arcs::node_list(work, n, capacities.len(), i),
-        node_ends(n, work, ends, i),
+        arcs::node_list(work, table.nodes, table.capacities.len(), i),
+        node_ends(table.nodes, work, ends, i),
         i,
         rows::at_node(&work[from..end], i),
     )
 }
 
 // The label that a relabel gives node i, and where its list is to be looked through from then.
-fn label_from_list(
-    n: u32,
-    tails: &[u32],
-    heads: &[u32],
-    capacities: &[u32],
-    flow: &[u32],
-    work: &[u32],
-    ends: &[u32],
-    i: u32,
-) -> Lowest
-    requires arc_rows { ArcRows n tails.now heads.now capacities.now × WithinCapacities capacities.now flow.now × Node n i }
-    requires by_index { (s t : ℕ) × InWork (given_table n s t tails heads capacities) work.now
-        × FarRow (given_table n s t tails heads capacities) ends.now }
-    ensures { (s t : ℕ) → (let table = lent_table n s t tails heads capacities in
-        InWork table work.now → FarRow table ends.now → Relabels table (state_in n flow.now work.now) i result) }
+fn label_from_list(table: &LentTable, flow: &[u32], work: &[u32], ends: &[u32], i: u32) -> Lowest
+    requires arc_rows { let table = table_in table.now in
+        ArcRows table.nodes table.tails table.heads table.capacities × WithinCapacities table.capacities flow.now × Node table.nodes i }
+    requires in_work { let table = table_in table.now in InWork table work.now × FarRow table ends.now }
+    ensures { let table = table_in table.now in Relabels table (state_in table.nodes flow.now work.now) i result }
 {
-    let nodes = n as usize;
+    let nodes = table.nodes as usize;
     let end = nodes + nodes;
     steps::new_label(
-        tails,
-        capacities,
+        table.tails,
+        table.capacities,
         flow,
         &work[nodes..end],
-        arcs::node_list(work, n, capacities.len(), i),
-        node_ends(n, work, ends, i),
+        arcs::node_list(work, table.nodes, table.capacities.len(), i),
+        node_ends(table.nodes, work, ends, i),
         i,
     )
 }
 
 // The push along place k away from node i to its far end j, with the excess part lent; whether it is saturating.
 fn push_from(
-    n: u32,
-    s: u32,
-    t: u32,
-    tails: &[u32],
-    heads: &[u32],
-    capacities: &[u32],
+    table: &LentTable,
     flow: &mut [u32],
     work: &mut [u32],
     delta: u64,
@@ -165,26 +143,16 @@ fn push_from(
     k: u32,
     j: u32,
 ) -> bool
-    requires arc_rows { ArcRows n tails.now heads.now capacities.now × (starts_at n ≤ length work.old) }
-    requires fact { let table = given_table n s t tails heads capacities in
-        InPhase table delta (state_in n flow.old work.old) × Node n i × (k < length capacities.now) × (j ≡ far table i k) }
-    ensures work_value { state_in n flow.new work.new ≡ push (lent_table n s t tails heads capacities) delta (state_in n flow.old work.old) i k }
-    ensures value { result ≡ saturates (lent_table n s t tails heads capacities) delta (state_in n flow.old work.old) i k }
-    ensures work_value_2 { lists_part n work.new ≡ lists_part n work.old }
+    requires arc_rows { let table = table_in table.now in
+        ArcRows table.nodes table.tails table.heads table.capacities × (starts_at table.nodes ≤ length work.old) }
+    requires fact { let table = table_in table.now in
+        InPhase table delta (state_in table.nodes flow.old work.old) × Node table.nodes i × (k < length table.capacities) × (j ≡ far table i k) }
+    ensures work_value { state_in table.now.nodes flow.new work.new ≡ push (table_in table.now) delta (state_in table.now.nodes flow.old work.old) i k }
+    ensures value { result ≡ saturates (table_in table.now) delta (state_in table.now.nodes flow.old work.old) i k }
+    ensures work_value_2 { lists_part table.now.nodes work.new ≡ lists_part table.now.nodes work.old }
 {
-    let nodes = n as usize;
-    steps::push(
-        tails,
-        capacities,
-        flow,
-        &mut work[0..nodes],
-        delta,
-        s,
-        t,
-        i,
-        k,
-        j,
-    )
+    let nodes = table.nodes as usize;
+    steps::push(table, flow, &mut work[0..nodes], delta, i, k, j)
 }
 
 // Node i's label becomes this one, with the labels part lent.
@@ -231,12 +199,7 @@ fn clear_looked(n: u32, work: &mut [u32])
 
 // One step at the chosen node i: a push along its first eligible arc, or else a relabel.
 fn step(
-    n: u32,
-    s: u32,
-    t: u32,
-    tails: &[u32],
-    heads: &[u32],
-    capacities: &[u32],
+    table: &LentTable,
     flow: &mut [u32],
     work: &mut [u32],
     ends: &[u32],
@@ -244,31 +207,29 @@ fn step(
     i: u32,
     counts: Counts,
 ) -> Taken
-    requires arc_rows { ArcRows n tails.now heads.now capacities.now × InWork (given_table n s t tails heads capacities) work.old
-        × FarRow (given_table n s t tails heads capacities) ends.now }
-    requires in_phase { InPhase (given_table n s t tails heads capacities) delta (state_in n flow.old work.old) × Node n i × (steps counts < 2 ^ 63) }
-    requires fact { let table = given_table n s t tails heads capacities in
-        let state = state_in n flow.old work.old in
-        ValidLabels table state × Looked table state (looked_part n work.old) }
-    ensures fact_2 { let table = lent_table n s t tails heads capacities in
-        Stepped table delta (run_in n flow.old work.old counts) i (run_in n flow.new work.new result.counts) (looked_part n work.new) result.other }
-    ensures same_lists { SameLists n work.old work.new }
+    requires arc_rows { let table = table_in table.now in
+        ArcRows table.nodes table.tails table.heads table.capacities × InWork table work.old × FarRow table ends.now }
+    requires in_phase { InPhase (table_in table.now) delta (state_in table.now.nodes flow.old work.old) × Node table.now.nodes i × (steps counts < 2 ^ 63) }
+    requires fact { let table = table_in table.now in
+        let state = state_in table.nodes flow.old work.old in
+        ValidLabels table state × Looked table state (looked_part table.nodes work.old) }
+    ensures fact_2 { let table = table_in table.now in
+        Stepped table delta (run_in table.nodes flow.old work.old counts) i (run_in table.nodes flow.new work.new result.counts) (looked_part table.nodes work.new) result.other }
+    ensures same_lists { SameLists table.now.nodes work.old work.new }
 {
-    match search_list(n, tails, heads, capacities, flow, work, ends, i) {
+    match search_list(table, flow, work, ends, i) {
         Some(spot) => {
-            let full = push_from(
-                n, s, t, tails, heads, capacities, flow, work, delta, i, spot.place, spot.far,
-            );
-            set_looked(n, work, i, spot.position);
+            let full = push_from(table, flow, work, delta, i, spot.place, spot.far);
+            set_looked(table.nodes, work, i, spot.position);
             Taken {
                 counts: steps::count_push(counts, full),
                 other: spot.far,
             }
         }
         None => {
-            let found = label_from_list(n, tails, heads, capacities, flow, work, ends, i);
-            set_label(n, work, i, found.label);
-            set_looked(n, work, i, found.at);
+            let found = label_from_list(table, flow, work, ends, i);
+            set_label(table.nodes, work, i, found.label);
+            set_looked(table.nodes, work, i, found.at);
             Taken {
                 counts: steps::count_relabel(counts),
                 other: i,
@@ -296,12 +257,7 @@ fn brought(t: u32, j: u32, had: u32, has: u32) -> u64
 
 // One step at the chosen node i, with what it brought to the sink added, and the choice of the next one.
 fn turn(
-    n: u32,
-    s: u32,
-    t: u32,
-    tails: &[u32],
-    heads: &[u32],
-    capacities: &[u32],
+    table: &LentTable,
     flow: &mut [u32],
     work: &mut [u32],
     tree: &mut [u32],
@@ -310,50 +266,32 @@ fn turn(
     i: u32,
     tally: Tally,
 ) -> Turned
-    requires arc_rows { ArcRows n tails.now heads.now capacities.now × InWork (given_table n s t tails heads capacities) work.old
-        × FarRow (given_table n s t tails heads capacities) ends.now }
-    requires fact { let table = given_table n s t tails heads capacities in
-        InPhase table delta (state_in n flow.old work.old) × Node n i × (steps tally.counts < 2 ^ 63) × (tally.sink < 2 ^ 63) }
-    requires fact_2 { let table = given_table n s t tails heads capacities in
-        let state = state_in n flow.old work.old in
-        ValidLabels table state × Ready table delta state (looked_part n work.old) tree.old (Some i) }
-    ensures counts_value { run_in n flow.new work.new result.tally.counts ≡ step (lent_table n s t tails heads capacities) delta (run_in n flow.old work.old tally.counts) i }
-    ensures sink_value { result.tally.sink ≡ tally.sink + gain (lent_table n s t tails heads capacities) delta (state_in n flow.old work.old) i }
-    ensures ready { Ready (lent_table n s t tails heads capacities) delta (state_in n flow.new work.new) (looked_part n work.new) tree.new result.next }
-    ensures same_lists { SameLists n work.old work.new }
+    requires arc_rows { let table = table_in table.now in
+        ArcRows table.nodes table.tails table.heads table.capacities × InWork table work.old × FarRow table ends.now }
+    requires fact { let table = table_in table.now in
+        InPhase table delta (state_in table.nodes flow.old work.old) × Node table.nodes i × (steps tally.counts < 2 ^ 63) × (tally.sink < 2 ^ 63) }
+    requires fact_2 { let table = table_in table.now in
+        let state = state_in table.nodes flow.old work.old in
+        ValidLabels table state × Ready table delta state (looked_part table.nodes work.old) tree.old (Some i) }
+    ensures counts_value { run_in table.now.nodes flow.new work.new result.tally.counts ≡ step (table_in table.now) delta (run_in table.now.nodes flow.old work.old tally.counts) i }
+    ensures sink_value { result.tally.sink ≡ tally.sink + gain (table_in table.now) delta (state_in table.now.nodes flow.old work.old) i }
+    ensures ready { Ready (table_in table.now) delta (state_in table.now.nodes flow.new work.new) (looked_part table.now.nodes work.new) tree.new result.next }
+    ensures same_lists { SameLists table.now.nodes work.old work.new }
 {
-    let had = excess_at(n, work, i);
-    let done = step(
-        n,
-        s,
-        t,
-        tails,
-        heads,
-        capacities,
-        flow,
-        work,
-        ends,
-        delta,
-        i,
-        tally.counts,
-    );
-    let next = next_choice(n, work, tree, delta, i, done.other);
-    let has = excess_at(n, work, i);
+    let had = excess_at(table.nodes, work, i);
+    let done = step(table, flow, work, ends, delta, i, tally.counts);
+    let next = next_choice(table.nodes, work, tree, delta, i, done.other);
+    let has = excess_at(table.nodes, work, i);
     let sum = Tally {
         counts: done.counts,
-        sink: tally.sink + brought(t, done.other, had, has),
+        sink: tally.sink + brought(table.sink, done.other, had, has),
     };
     Turned { tally: sum, next }
 }
 
 // One phase: steps at the chosen node until there is none, or until the net flow into the sink has reached q.
 fn phase(
-    n: u32,
-    s: u32,
-    t: u32,
-    tails: &[u32],
-    heads: &[u32],
-    capacities: &[u32],
+    table: &LentTable,
     flow: &mut [u32],
     work: &mut [u32],
     tree: &mut [u32],
@@ -362,27 +300,25 @@ fn phase(
     tally: Tally,
     q: u64,
 ) -> Tally
-    requires fact { let table = given_table n s t tails heads capacities in Accepted table × InWork table work.old × FarRow table ends.now }
-    requires fact_2 { let table = given_table n s t tails heads capacities in
-        let run = run_in n flow.old work.old tally.counts in
+    requires fact { let table = table_in table.now in Accepted table × InWork table work.old × FarRow table ends.now }
+    requires fact_2 { let table = table_in table.now in
+        let run = run_in table.nodes flow.old work.old tally.counts in
         Between table delta run × Underway table q run tally.sink }
-    requires fact_3 { let table = given_table n s t tails heads capacities in
-        Looked table (state_in n flow.old work.old) (looked_part n work.old) × (length tree.old ≡ 1024) }
-    ensures underway { Underway (lent_table n s t tails heads capacities) q (run_in n flow.new work.new result.counts) result.sink }
-    ensures counts_value { let table = lent_table n s t tails heads capacities in
-        result.sink < q → run_in n flow.new work.new result.counts ≡ phase table delta (run_in n flow.old work.old tally.counts) }
-    ensures looked { Looked (lent_table n s t tails heads capacities) (state_in n flow.new work.new) (looked_part n work.new) }
-    ensures same_lists { SameLists n work.old work.new }
+    requires fact_3 { let table = table_in table.now in
+        Looked table (state_in table.nodes flow.old work.old) (looked_part table.nodes work.old) × (length tree.old ≡ 1024) }
+    ensures underway { Underway (table_in table.now) q (run_in table.now.nodes flow.new work.new result.counts) result.sink }
+    ensures counts_value { let table = table_in table.now in
+        result.sink < q → run_in table.nodes flow.new work.new result.counts ≡ phase table delta (run_in table.nodes flow.old work.old tally.counts) }
+    ensures looked { Looked (table_in table.now) (state_in table.now.nodes flow.new work.new) (looked_part table.now.nodes work.new) }
+    ensures same_lists { SameLists table.now.nodes work.old work.new }
 {
-    let mut next = first_choice(n, work, tree, delta);
+    let mut next = first_choice(table.nodes, work, tree, delta);
     let mut taken = tally;
     while taken.sink < q {
         let Some(i) = next else {
             break;
         };
-        let turned = turn(
-            n, s, t, tails, heads, capacities, flow, work, tree, ends, delta, i, taken,
-        );
+        let turned = turn(table, flow, work, tree, ends, delta, i, taken);
         taken = turned.tally;
         next = turned.next;
     }
@@ -391,12 +327,7 @@ fn phase(
 
 // The phases at Delta = D, D/2, .., 1, from the start on, until the net flow into the sink, at first `sink`, has reached q.
 fn phases(
-    n: u32,
-    s: u32,
-    t: u32,
-    tails: &[u32],
-    heads: &[u32],
-    capacities: &[u32],
+    table: &LentTable,
     flow: &mut [u32],
     work: &mut [u32],
     tree: &mut [u32],
@@ -405,14 +336,14 @@ fn phases(
     sink: u64,
     q: u64,
 ) -> Tally
-    requires fact { let table = given_table n s t tails heads capacities in Accepted table × InWork table work.old × FarRow table ends.now }
-    requires fact_2 { let table = given_table n s t tails heads capacities in
-        (state_in n flow.old work.old ≡ start table) × (count ≡ phase_count table) × (sink ≡ into_sink table (start table).flow) }
-    requires fact_3 { let table = given_table n s t tails heads capacities in
-        Looked table (state_in n flow.old work.old) (looked_part n work.old) × (length tree.old ≡ 1024) }
-    ensures counts_value { run_in n flow.new work.new result.counts ≡ stopped (lent_table n s t tails heads capacities) q }
-    ensures sink_value { let table = lent_table n s t tails heads capacities in result.sink ≡ into_sink table (stopped table q).state.flow }
-    ensures same_lists { SameLists n work.old work.new }
+    requires fact { let table = table_in table.now in Accepted table × InWork table work.old × FarRow table ends.now }
+    requires fact_2 { let table = table_in table.now in
+        (state_in table.nodes flow.old work.old ≡ start table) × (count ≡ phase_count table) × (sink ≡ into_sink table (start table).flow) }
+    requires fact_3 { let table = table_in table.now in
+        Looked table (state_in table.nodes flow.old work.old) (looked_part table.nodes work.old) × (length tree.old ≡ 1024) }
+    ensures counts_value { run_in table.now.nodes flow.new work.new result.counts ≡ stopped (table_in table.now) q }
+    ensures sink_value { let table = table_in table.now in result.sink ≡ into_sink table (stopped table q).state.flow }
+    ensures same_lists { SameLists table.now.nodes work.old work.new }
 {
     let mut tally = Tally {
         counts: Counts::default(),
@@ -423,35 +354,24 @@ fn phases(
         if q <= tally.sink {
             break;
         }
-        tally = phase(
-            n, s, t, tails, heads, capacities, flow, work, tree, ends, delta, tally, q,
-        );
+        tally = phase(table, flow, work, tree, ends, delta, tally, q);
         delta /= 2;
     }
     tally
 }
 
 // The start, in the flow row and the first two parts of the work row.
-fn begin(
-    n: u32,
-    s: u32,
-    t: u32,
-    tails: &[u32],
-    heads: &[u32],
-    capacities: &[u32],
-    flow: &mut [u32],
-    work: &mut [u32],
-)
-    requires arc_rows { ArcRows n tails.now heads.now capacities.now }
-    requires n_in_bounds { (starts_at n ≤ length work.old) × (length flow.old ≡ length capacities.now) }
-    ensures work_value { state_in n flow.new work.new ≡ start (lent_table n s t tails heads capacities) }
-    ensures work_value_2 { lists_part n work.new ≡ lists_part n work.old }
+fn begin(table: &LentTable, flow: &mut [u32], work: &mut [u32])
+    requires arc_rows { let table = table_in table.now in ArcRows table.nodes table.tails table.heads table.capacities }
+    requires n_in_bounds { (starts_at table.now.nodes ≤ length work.old) × (length flow.old ≡ length table.now.capacities.now) }
+    ensures work_value { state_in table.now.nodes flow.new work.new ≡ start (table_in table.now) }
+    ensures work_value_2 { lists_part table.now.nodes work.new ≡ lists_part table.now.nodes work.old }
 {
-    let nodes = n as usize;
+    let nodes = table.nodes as usize;
     let end = nodes + nodes;
-    start::start_flow(tails, capacities, flow, s);
-    start::start_excess(tails, heads, capacities, &mut work[0..nodes], s, t);
-    start::start_labels(&mut work[nodes..end], s, t);
+    start::start_flow(table, flow);
+    start::start_excess(table, &mut work[0..nodes]);
+    start::start_labels(table, &mut work[nodes..end]);
 }
 
 // K: the number of phases for the excesses that the work row holds after the start.
@@ -464,29 +384,33 @@ fn count_phases(n: u32, work: &[u32]) -> u32
 }
 
 // The far ends of all lists that stand in the work row, at their entries' positions.
-fn fill_ends(
-    n: u32,
-    tails: &[u32],
-    heads: &[u32],
-    capacities: &[u32],
-    work: &[u32],
-    ends: &mut [u32],
-)
-    requires arc_rows { ArcRows n tails.now heads.now capacities.now × (length ends.old ≡ 8192) }
-    requires by_index { (s t : ℕ) × InWork (given_table n s t tails heads capacities) work.now }
-    ensures { (s t : ℕ) → (let table = lent_table n s t tails heads capacities in InWork table work.now → FarRow table ends.new) }
+fn fill_ends(table: &LentTable, work: &[u32], ends: &mut [u32])
+    requires arc_rows { let table = table_in table.now in
+        ArcRows table.nodes table.tails table.heads table.capacities × InWork table work.now }
+    requires ends_len { length ends.old ≡ 8192 }
+    ensures { FarRow (table_in table.now) ends.new }
 {
     let mut p = 0;
-    for i in 1..=n {
+    for i in 1..=table.nodes {
         p = steps::put_ends(
-            tails,
-            heads,
-            arcs::node_list(work, n, capacities.len(), i),
+            table.tails,
+            table.heads,
+            arcs::node_list(work, table.nodes, table.capacities.len(), i),
             ends,
             p,
             i,
         );
     }
+}
+
+// The net flow into the sink.
+fn into_sink(table: &LentTable, flow: &[u32]) -> u64
+    requires accepted { Accepted (table_in table.now) × (length flow.now ≡ arcs (table_in table.now)) }
+    requires sums { let table = table_in table.now in
+        sum_at table.tails flow.now table.sink (length table.tails) ≤ sum_at table.heads flow.now table.sink (length table.heads) }
+    ensures { result ≡ into_sink (table_in table.now) flow.now }
+{
+    start::sum_at(table.heads, flow, table.sink) - start::sum_at(table.tails, flow, table.sink)
 }
 
 // How many numbers the work row needs.
@@ -498,32 +422,20 @@ pub fn work_need(n: u32, m: usize) -> usize
 }
 
 // The run of an accepted table whose lists stand in the work row, and stay there: the start, then the phases, until the net flow into the sink has reached q. The flow row has just its m places.
-pub fn run_until(
-    n: u32,
-    s: u32,
-    t: u32,
-    tails: &[u32],
-    heads: &[u32],
-    capacities: &[u32],
-    q: u64,
-    flow: &mut [u32],
-    work: &mut [u32],
-) -> Stop
-    requires { let table = given_table n s t tails heads capacities in
-        Accepted table × InWork table work.old × (length flow.old ≡ length capacities.now) }
-    ensures { RanUntil (lent_table n s t tails heads capacities) q work.old result flow.new work.new }
+pub fn run_until(table: &LentTable, q: u64, flow: &mut [u32], work: &mut [u32]) -> Stop
+    requires { let table = table_in table.now in
+        Accepted table × InWork table work.old × (length flow.old ≡ length table.capacities) }
+    ensures { RanUntil (table_in table.now) q work.old result flow.new work.new }
 {
-    begin(n, s, t, tails, heads, capacities, flow, work);
-    clear_looked(n, work);
-    let count = count_phases(n, work);
+    begin(table, flow, work);
+    clear_looked(table.nodes, work);
+    let count = count_phases(table.nodes, work);
     let d = start::scale(count);
-    let sink = start::value(heads, tails, flow, t);
+    let sink = into_sink(table, flow);
     let mut tree = [0u32; 1024];
     let mut ends = [0u32; 8192];
-    fill_ends(n, tails, heads, capacities, work, &mut ends);
-    let taken = phases(
-        n, s, t, tails, heads, capacities, flow, work, &mut tree, &ends, count, sink, q,
-    );
+    fill_ends(table, work, &mut ends);
+    let taken = phases(table, flow, work, &mut tree, &ends, count, sink, q);
     Stop {
         counts: taken.counts,
         sink: taken.sink,
@@ -533,21 +445,12 @@ pub fn run_until(
 }
 
 // The whole run: the same with a q that no value reaches.
-pub fn run(
-    n: u32,
-    s: u32,
-    t: u32,
-    tails: &[u32],
-    heads: &[u32],
-    capacities: &[u32],
-    flow: &mut [u32],
-    work: &mut [u32],
-) -> Outcome
-    requires { let table = given_table n s t tails heads capacities in
-        Accepted table × InWork table work.old × (length flow.old ≡ length capacities.now) }
-    ensures { Ran (lent_table n s t tails heads capacities) work.old result flow.new work.new }
+pub fn run(table: &LentTable, flow: &mut [u32], work: &mut [u32]) -> Outcome
+    requires { let table = table_in table.now in
+        Accepted table × InWork table work.old × (length flow.old ≡ length table.capacities) }
+    ensures { Ran (table_in table.now) work.old result flow.new work.new }
 {
-    let stop = run_until(n, s, t, tails, heads, capacities, 4096000001, flow, work);
+    let stop = run_until(table, 4096000001, flow, work);
     Outcome {
         counts: stop.counts,
         phases: stop.phases,

@@ -1,5 +1,6 @@
 -- `feasible` meets its contract: the lists, the end of going on in the joined network, and the test of the new source's arcs.
 use native.Mathlib.Omega.{arith}
+use Rattle.arcs.proofs.Work.{in_work_ends}
 use Rattle.feasible.proofs.Places.{capacities_long}
 use Rattle.feasible.proofs.Networks.{joined_ready, joined_lists, feasible_by}
 use Rattle.feasible.proofs.feasible.Goals as goal
@@ -12,7 +13,7 @@ pub go_on-requires : goal.go_on-requires
 go_on-requires c =
     let ready = joined_ready c.requires.accepted_bounded c.requires.joined_rows c.requires.none_value.0 c.requires.none_value.1 in record {
       ready = ready;
-      in_work = c.fill_work.ensures.listed 0 0 c.args.limits.now ready.rows.arcs.capacities_long;
+      in_work = in_work_ends (c.fill_work.ensures.listed ready.rows.arcs.capacities_long) 0 0;
     }
 
 pub all_full-requires : goal.all_full-requires

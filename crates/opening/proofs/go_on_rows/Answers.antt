@@ -1,6 +1,6 @@
 -- `go_on_rows` meets its contract: chains are filled, then the value, the side and the cleared work row.
 use Rattle.std.proofs.Common.{◌≡◌, ℕ, ◌≤◌, List, length, arith}
-use Rattle.table.specs.Table.{table_of, Table, arcs, network_of, table_in}
+use Rattle.table.specs.Table.{Table, arcs, network_of, table_in}
 use Rattle.table.specs.Accepted.{Accepted}
 use Rattle.arcs.proofs.Work.{in_work_ends}
 use Rattle.start.specs.Sums.{sum_at}
@@ -38,7 +38,7 @@ mark-requires c =
     let sums : (length flow ≡ arcs table) × (sum_at c.args.bounded.now.table.heads.now flow c.args.bounded.now.table.source (length c.args.bounded.now.table.heads.now) ≤ sum_at c.args.bounded.now.table.tails.now flow c.args.bounded.now.table.source (length c.args.bounded.now.table.tails.now)) = last_sums table accepted c.args.flow.now c.requires.flow_len.0 c.requires.flow is_last in
     record {
       arc_rows = (accepted.rows, omega (arith, sums.0), accepted.source);
-      by_index = (c.args.bounded.now.table.source, c.args.bounded.now.table.sink, c.requires.in_work);
+      in_work = c.requires.in_work;
       n_in_bounds = c.requires.flow_len.1;
     }
 
@@ -60,8 +60,8 @@ returns c =
     went_rows table c.args.stamp c.args.flow.now c.args.side.now c.args.work.now c.value-value.result c.work_need.result c.answer_of.result
     flow c.mark.new.side c.clear.new.row
     c.requires.flow_len.0 is_last
-    (c.value-value.ensures c.args.bounded.now.table.nodes c.args.bounded.now.table.sink c.args.bounded.now.table.capacities.now accepted.rows.capacities_long)
-    (c.mark.ensures c.args.bounded.now.table.sink)
+    (c.value-value.ensures accepted.rows.capacities_long)
+    c.mark.ensures
     c.clear.ensures
     c.work_need.ensures
     c.answer_of.ensures

@@ -10,7 +10,7 @@ open_capacity-requires c = (c.requires.len.0, c.requires.opens.below)
 
 pub go_on_rows-requires : goal.go_on_rows-requires
 go_on_rows-requires c =
-    let the_facts = rows_ask c.requires.opens c.requires.len.1 c.requires.len.2 c.requires.by_index c.open_capacity.ensures in record {
+    let the_facts = rows_ask c.requires.opens c.requires.len.1 c.requires.len.2 c.requires.in_work c.open_capacity.ensures in record {
       accepted = the_facts.0;
       minimums_value = the_facts.1.0;
       in_work = the_facts.1.1.0;

@@ -1,6 +1,6 @@
 -- `open_table` meets its contract: the first m places of the rows are lent.
 use Rattle.std.proofs.Common.{◌≤◌, length, sym, arith, length-take-le}
-use Rattle.table.specs.Table.{table_of, table_in}
+use Rattle.table.specs.Table.{table_in}
 use Rattle.rows.proofs.Rows.{zeros_taken}
 use Rattle.opening.proofs.Reopening.{opens_part, went_opened}
 use Rattle.opening.proofs.open_table.Goals as goal
@@ -36,7 +36,7 @@ open_rows-requires c =
     let few : length c.args.table.now.capacities.now ≤ 4096 = omega (arith, c.requires.opens.accepted.rows.ends.few_arcs, c.requires.opens.accepted.rows.capacities_long) in
     record {
       opens = opens_part c.requires.opens;
-      by_index = c.requires.by_index;
+      in_work = c.requires.in_work;
       len = (length-take-le _ _ few, length-take-le _ _ c.requires.opens.for_flow, zeros_taken _ 4096 few);
     }
 

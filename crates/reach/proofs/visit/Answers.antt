@@ -7,14 +7,13 @@ use Rattle.reach.proofs.visit.Goals as goal
 
 pub loop-k-init : goal.loop-k-init
 unfolding look_to
-loop-k-init c = (moved_none, λ n s t. refl)
+loop-k-init c = (moved_none, refl)
 
 pub loop-k-preserved : goal.loop-k-preserved
 loop-k-preserved c =
     let inv = c.loop-k.invariant in
     let small = c.requires.arc_rows.2 c.loop-k.k-index (omega arith) in
-    let turn = look_turn c.requires.arc_rows.0 in
-    let args = c.args in (
-      (turn 0 0 0 args.flow.now args.i args.list.now c.loop-k.k-index _ _ _ refl small inv.0 (inv.1 0 0 0) (c.look.ensures 0 0 0)).1,
-      λ n s t. (turn n s t args.flow.now args.i args.list.now c.loop-k.k-index _ _ _ refl small inv.0 (inv.1 n s t) (c.look.ensures n s t)).0,
-    )
+    let args = c.args in
+    let table = args.table.now in
+    let turn = look_turn c.requires.arc_rows.0 table.nodes table.source table.sink args.flow.now args.i args.list.now c.loop-k.k-index _ _ _ refl small inv.0 inv.1 c.look.ensures in
+    (turn.1, turn.0)

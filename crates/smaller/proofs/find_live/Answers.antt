@@ -1,10 +1,8 @@
 -- `find_live` meets its contract: the lists serve both markings.
 use Rattle.std.proofs.Common.{length, arith}
-use Rattle.table.specs.Table.{Table, table_of, table_in}
+use Rattle.table.specs.Table.{Table, table_in}
 use Rattle.arcs.specs.Work.{InWork}
 use Rattle.arcs.proofs.Ends.{ends_wide}
-use Rattle.arcs.proofs.Work.{in_work_turned}
-use Rattle.reach.proofs.Turning.{rows_turned}
 use Rattle.smaller.proofs.Living.{live_ahead, live_behind}
 use Rattle.smaller.proofs.find_live.Goals as goal
 
@@ -16,31 +14,31 @@ fill_work-requires c =
 pub mark-requires : goal.mark-requires
 mark-requires c =
     let table : Table = table_in c.args.table.now in
-    let in_work : InWork table c.fill_work.new.work = c.fill_work.ensures.listed c.args.table.now.source c.args.table.now.sink c.args.table.now.capacities.now c.requires.accepted.0.rows.capacities_long in
+    let in_work : InWork table c.fill_work.new.work = c.fill_work.ensures.listed c.requires.accepted.0.rows.capacities_long in
     record {
       arc_rows = (c.requires.accepted.0.rows, c.requires.capacities_in_bounds.0, c.requires.accepted.0.source);
-      by_index = (c.args.table.now.source, c.args.table.now.sink, in_work);
+      in_work = in_work;
       n_in_bounds = c.requires.capacities_in_bounds.2;
     }
 
-pub mark-requires-2 : goal.mark-requires-2
-mark-requires-2 c =
+pub mark_sink_side-requires : goal.mark_sink_side-requires
+mark_sink_side-requires c =
     let table : Table = table_in c.args.table.now in
-    let in_work : InWork table c.fill_work.new.work = c.fill_work.ensures.listed c.args.table.now.source c.args.table.now.sink c.args.table.now.capacities.now c.requires.accepted.0.rows.capacities_long in
+    let in_work : InWork table c.fill_work.new.work = c.fill_work.ensures.listed c.requires.accepted.0.rows.capacities_long in
     record {
-      arc_rows = (rows_turned c.requires.accepted.0.rows, c.requires.capacities_in_bounds.0, c.requires.accepted.0.sink);
-      by_index = (c.args.table.now.sink, c.args.table.now.source, in_work_turned in_work c.args.table.now.sink c.args.table.now.source);
+      arc_rows = (c.requires.accepted.0.rows, c.requires.capacities_in_bounds.0, c.requires.accepted.0.sink);
+      in_work = in_work;
       n_in_bounds = c.requires.capacities_in_bounds.3;
     }
 
 pub returns : goal.returns
 returns c =
     let table : Table = table_in c.args.table.now in
-    let in_work : InWork table c.fill_work.new.work = c.fill_work.ensures.listed c.args.table.now.source c.args.table.now.sink c.args.table.now.capacities.now c.requires.accepted.0.rows.capacities_long in
+    let in_work : InWork table c.fill_work.new.work = c.fill_work.ensures.listed c.requires.accepted.0.rows.capacities_long in
     let given = c.args in record {
       in_work = in_work;
       fact = (
-        live_ahead table c.requires.accepted.0 given.none.now (length given.none.now) c.requires.accepted.1 given.ahead.now _ (c.mark.ensures given.table.now.sink),
-        live_behind table c.requires.accepted.0 given.none.now (length given.none.now) c.requires.accepted.1 given.behind.now _ (c.mark-2.ensures given.table.now.source),
+        live_ahead table c.requires.accepted.0 given.none.now (length given.none.now) c.requires.accepted.1 given.ahead.now _ c.mark.ensures,
+        live_behind table c.requires.accepted.0 given.none.now (length given.none.now) c.requires.accepted.1 given.behind.now _ c.mark_sink_side.ensures,
       );
     }

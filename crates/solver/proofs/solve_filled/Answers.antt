@@ -4,7 +4,7 @@ use mathlib.Core.Path.{◌≡◌, sym, ◌∙◌}
 use mathlib.Core.List.{List}
 use native.Mathlib.Omega.{arith}
 use lib.ListN.{length}
-use Rattle.table.specs.Table.{table_of, Table, arcs, table_in}
+use Rattle.table.specs.Table.{Table, arcs, table_in}
 use Rattle.table.specs.Accepted.{Accepted}
 use Rattle.arcs.specs.Work.{InWork}
 use Rattle.arcs.proofs.Work.{in_work_kept}
@@ -36,7 +36,7 @@ mark-requires c =
     let in_work : InWork table work = in_work_kept table c.args.work.now work c.run-outcome.ensures.lists_stay (sym c.run-outcome.auto.work) c.requires.fact.1 in
     record {
       arc_rows = (accepted.rows, omega (arith, as_long), accepted.source);
-      by_index = (c.args.table.now.source, c.args.table.now.sink, in_work);
+      in_work = in_work;
       n_in_bounds = c.requires.flow_len.1;
     }
 
@@ -49,6 +49,6 @@ returns c =
     filled_by table c.args.stamp c.args.side.now c.args.work.now c.run-outcome.result c.value-value.result c.answer_of.result flow
     c.mark.new.side work
     c.run-outcome.ensures
-    (c.value-value.ensures c.args.table.now.nodes c.args.table.now.sink c.args.table.now.capacities.now accepted.rows.capacities_long)
-    (c.mark.ensures c.args.table.now.sink)
+    (c.value-value.ensures accepted.rows.capacities_long)
+    c.mark.ensures
     c.answer_of.ensures

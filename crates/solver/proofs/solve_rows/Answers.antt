@@ -4,7 +4,7 @@ use mathlib.Core.Path.{sym, subst, ◌∙◌}
 use mathlib.Core.List.{List}
 use native.Mathlib.Omega.{arith}
 use lib.ListN.{length}
-use Rattle.table.specs.Table.{table_of, Table, table_in}
+use Rattle.table.specs.Table.{Table, table_in}
 use Rattle.arcs.specs.Work.{ElseSame}
 use Rattle.arcs.proofs.Ends.{ends_wide}
 use Rattle.arcs.proofs.Work.{cleared_is}
@@ -18,7 +18,7 @@ fill_work-requires c =
 
 pub solve_filled-answer-requires : goal.solve_filled-answer-requires
 solve_filled-answer-requires c = record {
-  fact = (c.requires.accepted, c.fill_work.ensures.listed c.args.table.now.source c.args.table.now.sink c.args.table.now.capacities.now c.requires.accepted.rows.capacities_long);
+  fact = (c.requires.accepted, c.fill_work.ensures.listed c.requires.accepted.rows.capacities_long);
   flow_len = (c.requires.flow_len.0, c.requires.flow_len.1);
 }
 

@@ -4,7 +4,7 @@ use Rattle.rows.proofs.Sums.{sum_term}
 use Rattle.rows.proofs.Rows.{node_at, total_zeros}
 use Rattle.rows.specs.Sum.{total}
 use Rattle.start.specs.Sums.{received}
-use Rattle.table.specs.Table.{table_of}
+use Rattle.table.specs.Table.{table_in}
 use Rattle.rows.specs.Row.{at_place}
 use lib.ListN.{length, replicate}
 use mathlib.Core.List.{List}
@@ -13,7 +13,7 @@ use Prim.Native.Nat.{ℕ, ◌-◌, ◌<◌}
 use native.Mathlib.Omega.{arith}
 use borrow.Author.Rules.{rules}
 use Rattle.start.proofs.start_excess.Goals as goal
-use Rattle.start.proofs.start_excess.Goals.{then-tails-k, else-tails-k}
+use Rattle.start.proofs.start_excess.Goals.{then-table-k, else-table-k}
 
 pub loop-k-init : goal.loop-k-init
 loop-k-init c =
@@ -21,7 +21,7 @@ loop-k-init c =
     let row = c.fill.new.self in
     let zeros : row ≡ replicate (length given.excess.now) 0 = search rules in
     let same : length row ≡ length given.excess.now = c.fill.auto.self in (
-      zeros ∙ rw (← same) (row_first (table_of (length row) given.s given.t given.tails.now given.heads.now given.capacities.now) (length row)),
+      zeros ∙ rw (← same) (row_first (table_in given.table.now) (length row)),
       omega (arith, ap total zeros, total_zeros (length given.excess.now)),
     )
 
@@ -29,10 +29,10 @@ pub receive-requires : goal.receive-requires
 receive-requires c =
     let k = c.loop-k.k in
     let kept : length c.loop-k.excess ≡ length c.args.excess.now = c.loop-k.auto.excess ∙ c.fill.auto.self in
-    let node = c.requires.ends.head_node k (omega (arith, c.requires.capacities_long)) in
-    let j = at_place c.args.heads.now k in
+    let node = c.requires.0.ends.head_node k (omega (arith, c.requires.0.capacities_long)) in
+    let j = at_place c.args.table.now.heads.now k in
     let held_there = sum_term (length c.loop-k.excess) (at_place c.loop-k.excess) (j - 1) (omega arith) in
-    let bounded = c.requires.small k (omega arith) in
+    let bounded = c.requires.0.small k (omega arith) in
     ((omega arith, omega arith), omega (arith, c.loop-k.invariant.1, node_at c.loop-k.excess j node.0))
 
 pub loop-k-preserved : goal.loop-k-preserved
@@ -43,24 +43,24 @@ loop-k-preserved c =
     let n = length c.fill.new.self in
     let long : length row ≡ n = c.loop-k.auto.excess in
     let kept : n ≡ length given.excess.now = c.fill.auto.self in
-    let at : k < length given.tails.now = omega (arith, c.requires.capacities_long) in
-    let node = c.requires.ends.head_node k at in
-    let T = table_of n given.s given.t given.tails.now given.heads.now given.capacities.now in
-    let j = at_place given.heads.now k in
-    let x = at_place given.capacities.now k in
-    elim c.if-tails-k.branch [
-      | then-tails-k w ↦
-          let gained = total_received row given.t j x (omega arith) in (
-            w.excess-is ∙ w.receive.ensures ∙ ap (λ (row : List ℕ). received row given.t j x) c.loop-k.invariant.0
-                ∙ row_received T n k w.if-tails-k.true (λ q. c.requires.ends.no_loop k at (w.if-tails-k.true ∙ sym q)) (omega arith),
-            omega (arith, ap total (w.excess-is ∙ w.receive.ensures), c.requires.small k c.loop-k-test.true),
+    let at : k < length given.table.now.tails.now = omega (arith, c.requires.0.capacities_long) in
+    let node = c.requires.0.ends.head_node k at in
+    let T = table_in given.table.now in
+    let j = at_place given.table.now.heads.now k in
+    let x = at_place given.table.now.capacities.now k in
+    elim c.if-table-k.branch [
+      | then-table-k w ↦
+          let gained = total_received row given.table.now.sink j x (omega arith) in (
+            w.excess-is ∙ w.receive.ensures ∙ ap (λ (row : List ℕ). received row given.table.now.sink j x) c.loop-k.invariant.0
+                ∙ row_received T n k w.if-table-k.true (λ q. c.requires.0.ends.no_loop k at (w.if-table-k.true ∙ sym q)) (omega arith),
+            omega (arith, ap total (w.excess-is ∙ w.receive.ensures), c.requires.0.small k c.loop-k-test.true),
           )
-      | else-tails-k w ↦
-          (w.excess-is ∙ c.loop-k.invariant.0 ∙ row_passed T n k w.if-tails-k.false, omega (arith, ap total w.excess-is))
+      | else-table-k w ↦
+          (w.excess-is ∙ c.loop-k.invariant.0 ∙ row_passed T n k w.if-table-k.false, omega (arith, ap total w.excess-is))
     ]
 
 pub returns : goal.returns
 returns c =
     let kept = c.fill.auto.self in
-    let all : c.loop-k.k ≡ length c.args.capacities.now = omega arith in
-    c.loop-k.invariant.0 ∙ rw (all, kept) (row_last _)
+    let all : c.loop-k.k ≡ length c.args.table.now.capacities.now = omega arith in
+    c.loop-k.invariant.0 ∙ rw (all, kept, c.requires.1) (row_last _)

@@ -1,12 +1,12 @@
 -- `start_flow` meets its contract. The invariant: the first k places are filled, the others as they were.
-use Rattle.table.specs.Table.{table_of}
+use Rattle.table.specs.Table.{table_in}
 use Rattle.run.specs.Start.{start_flow_at}
 use Rattle.rows.specs.Row.{by_place}
 use lib.ListN.{drop}
-use mathlib.Core.List.{[], ◌++◌}
+use mathlib.Core.List.{◌++◌}
 use mathlib.Core.Path.{◌≡◌}
 use Rattle.start.proofs.start_flow.Given as goal
 
 abbrev pub invariant-loop-k : goal.invariant-loop-k
 invariant-loop-k l =
-    l.flow ≡ by_place (start_flow_at (table_of 0 l.s 0 l.tails [] l.capacities)) l.k ++ drop l.k l.initial.flow
+    l.flow ≡ by_place (start_flow_at (table_in l.table)) l.k ++ drop l.k l.initial.flow

@@ -1,35 +1,28 @@
 -- `begin` meets its contract: the flow row, then the excess part, then the labels part.
 use Prim.Native.Nat.{ℕ, ◌-◌, ◌≤◌}
 use borrow.Rule.Slice.PartMut.{put_mid}
-use Rattle.table.specs.Table.{table_of}
-use Rattle.run.specs.Start.{start_label_at}
-use Rattle.run.specs.Start.{start as begun}
-use Rattle.rows.specs.Row.{by_node}
-use Rattle.arcs.specs.Work.{starts_at, labels_part}
+use Rattle.table.specs.Table.{table_in}
+use Rattle.arcs.specs.Work.{starts_at}
 use Rattle.arcs.proofs.Work.{length_excess, length_labels, excess_length, both_excess, both_labels, both_lists}
 use Rattle.work.proofs.Stepping.{same_state, start_is}
 use lib.ListN.{length}
 use native.Mathlib.Omega.{arith}
-use mathlib.Core.Path.{◌≡◌, refl, ap, ◌∙◌}
+use mathlib.Core.Path.{◌≡◌, refl, ◌∙◌}
 use Rattle.work.proofs.begin.Goals as goal
 
 pub returns : goal.returns
 returns c =
-    let excess_size : length c.start_excess.new.excess ≡ c.args.n = c.start_excess.auto.excess ∙ length_excess c.args.n c.args.work.now c.requires.n_in_bounds.0 in
-    let roomy : starts_at c.args.n ≤ length (put_mid 0 (c.args.n - 0) c.args.work.now c.start_excess.new.excess) = omega (arith, excess_length c.args.n c.args.work.now c.start_excess.new.excess c.requires.n_in_bounds.0 excess_size, c.requires.n_in_bounds.0) in
-    let long_labels : length (labels_part c.args.n (put_mid 0 (c.args.n - 0) c.args.work.now c.start_excess.new.excess)) ≡ c.args.n = length_labels c.args.n (put_mid 0 (c.args.n - 0) c.args.work.now c.start_excess.new.excess) roomy in
     let given = c.args in
-    let T = table_of given.n given.s given.t given.tails.now given.heads.now given.capacities.now in
-    let long = long_labels in
-    let labels_size = c.start_labels.auto.labels ∙ long in
+    let n = given.table.now.nodes in
     let excess = c.start_excess.new.excess in
-    let labels = c.start_labels.new.labels in record {
-      work_value = same_state refl (both_excess given.n given.work.now excess labels c.requires.n_in_bounds.0 excess_size labels_size)
-          (both_labels given.n given.work.now excess labels c.requires.n_in_bounds.0 excess_size labels_size)
-          ∙ start_is T given.flow.now c.start_flow.new.flow excess labels c.requires.n_in_bounds.1
-          (c.start_flow.ensures given.n given.t given.heads.now)
-          (c.start_excess.ensures ∙ ap (λ (m : ℕ). (begun (table_of m given.s given.t given.tails.now given.heads.now given.capacities.now)).excess) (length_excess given.n given.work.now c.requires.n_in_bounds.0))
-          (c.start_labels.ensures given.tails.now given.heads.now given.capacities.now
-          ∙ ap (λ (m : ℕ). by_node (start_label_at (table_of m given.s given.t given.tails.now given.heads.now given.capacities.now)) m) long);
-      work_value_2 = both_lists given.n given.work.now excess labels c.requires.n_in_bounds.0 excess_size labels_size;
+    let labels = c.start_labels.new.labels in
+    let excess_size : length excess ≡ n = c.start_excess.auto.excess ∙ length_excess n given.work.now c.requires.n_in_bounds.0 in
+    let roomy : starts_at n ≤ length (put_mid 0 (n - 0) given.work.now excess) = omega (arith, excess_length n given.work.now excess c.requires.n_in_bounds.0 excess_size, c.requires.n_in_bounds.0) in
+    let labels_size : length labels ≡ n = c.start_labels.auto.labels ∙ length_labels n (put_mid 0 (n - 0) given.work.now excess) roomy in
+    record {
+      work_value = same_state refl (both_excess n given.work.now excess labels c.requires.n_in_bounds.0 excess_size labels_size)
+          (both_labels n given.work.now excess labels c.requires.n_in_bounds.0 excess_size labels_size)
+          ∙ start_is (table_in given.table.now) given.flow.now c.start_flow.new.flow excess labels c.requires.n_in_bounds.1
+          c.start_flow.ensures c.start_excess.ensures c.start_labels.ensures;
+      work_value_2 = both_lists n given.work.now excess labels c.requires.n_in_bounds.0 excess_size labels_size;
     }

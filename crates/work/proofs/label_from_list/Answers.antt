@@ -1,6 +1,6 @@
 -- `label_from_list` meets its contract: the parts handed on are node i's list and its far ends.
 use Prim.Native.Nat.{ℕ}
-use Rattle.table.specs.Table.{table_of}
+use Rattle.table.specs.Table.{table_in}
 use Rattle.looking.specs.Looked.{HighBefore}
 use Rattle.steps.specs.Rows.{Beside, FarEnds}
 use Rattle.arcs.specs.Work.{excess_part}
@@ -17,31 +17,31 @@ use Rattle.work.proofs.label_from_list.Goals as goal
 pub new_label-requires : goal.new_label-requires
 new_label-requires c =
     let given = c.args in
-    let table = table_of given.n c.requires.by_index.0 c.requires.by_index.1 given.tails.now given.heads.now given.capacities.now in
-    let long = length_labels given.n given.work.now (omega (arith, c.requires.by_index.2.room)) in
-    let same = c.node_list.ensures table c.requires.by_index.2 refl refl in
-    let are = c.node_ends.ensures table c.requires.by_index.2 refl c.requires.by_index.3 in
-    let stand : Beside (length given.capacities.now) given.n c.node_list.result.now c.node_ends.result.now =
-    subst⁻¹ (λ (l : List ℕ). Beside (length given.capacities.now) given.n l c.node_ends.result.now) same
+    let table = table_in given.table.now in
+    let long = length_labels given.table.now.nodes given.work.now (omega (arith, c.requires.in_work.0.room)) in
+    let same = c.node_list.ensures table c.requires.in_work.0 refl refl in
+    let are = c.node_ends.ensures table c.requires.in_work.0 refl c.requires.in_work.1 in
+    let stand : Beside (length given.table.now.capacities.now) given.table.now.nodes c.node_list.result.now c.node_ends.result.now =
+    subst⁻¹ (λ (l : List ℕ). Beside (length given.table.now.capacities.now) given.table.now.nodes l c.node_ends.result.now) same
     (beside table given.i c.node_ends.result.now c.requires.arc_rows.0 are.0 are.1) in record {
       tails_len = (sym c.requires.arc_rows.0.capacities_long, c.requires.arc_rows.1, omega (arith, long, c.requires.arc_rows.0.ends.few_nodes));
       beside = (
-        subst⁻¹ (λ (m : ℕ). Beside (length given.capacities.now) m c.node_list.result.now c.node_ends.result.now) long stand,
+        subst⁻¹ (λ (m : ℕ). Beside (length given.table.now.capacities.now) m c.node_list.result.now c.node_ends.result.now) long stand,
         omega (arith, ap (λ (l : List ℕ). length l) same, list_short table given.i c.requires.arc_rows.0),
       );
     }
 
 pub returns : goal.returns
-returns c s t known ends_are =
+returns c =
     let given = c.args in
-    let table = table_of given.n s t given.tails.now given.heads.now given.capacities.now in
-    let st = state_in given.n given.flow.now given.work.now in
-    let excess = excess_part given.n given.work.now in
-    let long = length_labels given.n given.work.now (omega (arith, known.room)) in
-    let same = c.node_list.ensures table known refl refl in
+    let table = table_in given.table.now in
+    let st = state_in given.table.now.nodes given.flow.now given.work.now in
+    let excess = excess_part given.table.now.nodes given.work.now in
+    let long = length_labels given.table.now.nodes given.work.now (omega (arith, c.requires.in_work.0.room)) in
+    let same = c.node_list.ensures table c.requires.in_work.0 refl refl in
     let found =
-    c.new_label.ensures.by_index given.n s t given.heads.now excess
-    (subst⁻¹ (λ (l : List ℕ). FarEnds table given.i l c.node_ends.result.now) same (c.node_ends.ensures table known refl ends_are).1) in
+    c.new_label.ensures.by_index given.table.now.nodes given.table.now.source given.table.now.sink given.table.now.heads.now excess
+    (subst⁻¹ (λ (l : List ℕ). FarEnds table given.i l c.node_ends.result.now) same (c.node_ends.ensures table c.requires.in_work.0 refl c.requires.in_work.1).1) in
     record {
       label_is = label_is table st given.i c.node_list.result.now _ long same found.0;
       within = omega (arith, c.new_label.ensures.at_in_bounds, ap (λ (l : List ℕ). length l) same);

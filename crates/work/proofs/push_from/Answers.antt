@@ -8,11 +8,11 @@ use Rattle.work.proofs.push_from.Goals as goal
 pub returns : goal.returns
 returns c =
     let given = c.args in
-    let size = c.push.auto.excess ∙ length_excess given.n given.work.now c.requires.arc_rows.1 in
+    let size = c.push.auto.excess ∙ length_excess given.table.now.nodes given.work.now c.requires.arc_rows.1 in
     let new = c.push.new.excess in
-    let told = c.push.ensures given.n given.heads.now (labels_part given.n given.work.now) c.requires.fact.3 in record {
-      work_value = same_state refl (excess_excess given.n given.work.now new c.requires.arc_rows.1 size) (excess_labels given.n given.work.now new c.requires.arc_rows.1 size)
+    let told = c.push.ensures (labels_part given.table.now.nodes given.work.now) in record {
+      work_value = same_state refl (excess_excess given.table.now.nodes given.work.now new c.requires.arc_rows.1 size) (excess_labels given.table.now.nodes given.work.now new c.requires.arc_rows.1 size)
           ∙ pushed_state told;
       value = told.full_is;
-      work_value_2 = excess_lists given.n given.work.now new c.requires.arc_rows.1 size;
+      work_value_2 = excess_lists given.table.now.nodes given.work.now new c.requires.arc_rows.1 size;
     }
