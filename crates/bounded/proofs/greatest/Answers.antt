@@ -16,7 +16,7 @@ fill_work-requires c =
 pub go_on-requires : goal.go_on-requires
 go_on-requires c = record {
   ready = ready c.requires.solvable c.requires.above c.add_minimums.ensures;
-  in_work = c.fill_work.ensures.listed 0 0 c.args.capacities.now c.requires.solvable.accepted.rows.arcs.capacities_long;
+  in_work = c.fill_work.ensures.listed 0 0 c.args.bounded.now.table.capacities.now c.requires.solvable.accepted.rows.arcs.capacities_long;
 }
 
 pub take_minimums-requires : goal.take_minimums-requires
@@ -40,4 +40,4 @@ net_out-requires c =
 
 pub returns : goal.returns
 returns c =
-    leaves c.requires.solvable c.requires.above c.add_minimums.ensures c.go_on.ensures c.take_minimums.ensures (c.mark.ensures c.args.t) c.net_out.ensures
+    leaves c.requires.solvable c.requires.above c.add_minimums.ensures c.go_on.ensures c.take_minimums.ensures (c.mark.ensures c.args.bounded.now.table.sink) c.net_out.ensures
