@@ -10,6 +10,7 @@ ghost use Rattle.joining.specs.Joining.{joined_arcs, Small};
 ghost use Rattle.bounded.specs.Solving.{Solvable, OwnRows, Above, Leaves};
 
 use minimums::LentBounded;
+use table::LentTable;
 
 // The first places of the flow row: what flows above the minimums, and the minimums.
 fn add_minimums(more: &[u32], minimums: &[u32], flow: &mut [u32])
@@ -101,33 +102,17 @@ fn solve_in(
     requires own_rows { OwnRows (joined_arcs bounded.now.table.nodes (length bounded.now.table.capacities.now)) from.old to.old limits.old none.now more.old lists.old }
     ensures { Leaves (bounded_in bounded.now) flow.old side.old result flow.new side.new }
 {
-    joining::join(
-        bounded.table.nodes,
-        bounded.table.source,
-        bounded.table.sink,
-        bounded.table.tails,
-        bounded.table.heads,
-        bounded.table.capacities,
-        bounded.minimums,
-        from,
-        to,
-        limits,
-    );
-    if !feasible::feasible(
-        bounded.table.nodes,
-        bounded.table.source,
-        bounded.table.sink,
-        bounded.table.tails,
-        bounded.table.heads,
-        bounded.table.capacities,
-        bounded.minimums,
-        from,
-        to,
-        limits,
-        none,
-        more,
-        lists,
-    ) {
+    joining::join(bounded, from, to, limits);
+    let nodes = bounded.table.nodes;
+    let joined = LentTable {
+        nodes: nodes + 2,
+        source: nodes + 1,
+        sink: nodes + 2,
+        tails: from,
+        heads: to,
+        capacities: limits,
+    };
+    if !feasible::feasible(bounded, &joined, none, more, lists) {
         return None;
     }
     let spare = &limits[..bounded.table.capacities.len()];
