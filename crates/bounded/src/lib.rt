@@ -61,17 +61,7 @@ fn greatest(
     let table = &bounded.table;
     add_minimums(more, bounded.minimums, flow);
     arcs::fill_work(table.nodes, table.tails, table.heads, lists);
-    augment::go_on(
-        table.nodes,
-        table.source,
-        table.sink,
-        table.tails,
-        table.heads,
-        table.capacities,
-        bounded.minimums,
-        flow,
-        lists,
-    );
+    augment::go_on(bounded, flow, lists);
     take_minimums(flow, bounded.minimums, more);
     reach::mark(
         table.nodes,

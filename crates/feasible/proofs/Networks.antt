@@ -129,7 +129,7 @@ module _ {n s t : ℕ} {tails heads capacities minimums : List ℕ} (accepted : 
         })
 
     -- so the joined rows are ready to go on,
-    pub joined_ready : Ready (n + 2) (n + 1) (n + 2) tails₂ heads₂ capacities₂ zeros flow₂
+    pub joined_ready : Ready (bounded_of (n + 2) (n + 1) (n + 2) tails₂ heads₂ capacities₂ zeros) flow₂
     joined_ready =
         let few = accepted.rows.arcs.ends.few_arcs in
         let nodes = accepted.rows.arcs.ends.few_nodes in
@@ -204,9 +204,9 @@ module _ {b : BoundedTable} (accepted : AcceptedBounded b) {t : Table} (is : t �
   hold = record { tails_hold = refl; heads_hold = refl; capacities_hold = refl }
 
   -- ready to go on,
-  pub table_ready : Ready t.nodes t.source t.sink t.tails t.heads t.capacities zeros flow
+  pub table_ready : Ready (record { table = t; minimums = zeros }) flow
   table_ready =
-      subst (λ (j : Table). Ready j.nodes j.source j.sink j.tails j.heads j.capacities zeros flow) (sym is) (joined_ready accepted hold zeros_are nothing)
+      subst (λ (j : Table). Ready (record { table = j; minimums = zeros }) flow) (sym is) (joined_ready accepted hold zeros_are nothing)
 
   -- with room for their lists;
   pub table_lists : (room : ℕ) → work_end 514 5122 ≤ room → WideEnds t.nodes t.tails t.heads × (work_end t.nodes (length t.tails) ≤ room)

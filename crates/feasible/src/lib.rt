@@ -35,17 +35,11 @@ pub fn feasible(
     ensures { Feasible (bounded_in bounded.now) more.new result }
 {
     arcs::fill_work(joined.nodes, joined.tails, joined.heads, lists);
-    augment::go_on(
-        joined.nodes,
-        joined.source,
-        joined.sink,
-        joined.tails,
-        joined.heads,
-        joined.capacities,
-        none,
-        more,
-        lists,
-    );
+    let network = LentBounded {
+        table: *joined,
+        minimums: none,
+    };
+    augment::go_on(&network, more, lists);
     let m = bounded.table.capacities.len();
     all_full(
         joined.capacities,

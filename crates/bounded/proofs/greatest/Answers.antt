@@ -16,7 +16,7 @@ fill_work-requires c =
 pub go_on-requires : goal.go_on-requires
 go_on-requires c = record {
   ready = ready c.requires.solvable c.requires.above c.add_minimums.ensures;
-  in_work = c.fill_work.ensures.listed 0 0 c.args.bounded.now.table.capacities.now c.requires.solvable.accepted.rows.arcs.capacities_long;
+  in_work = c.fill_work.ensures.listed c.args.bounded.now.table.source c.args.bounded.now.table.sink c.args.bounded.now.table.capacities.now c.requires.solvable.accepted.rows.arcs.capacities_long;
 }
 
 pub take_minimums-requires : goal.take_minimums-requires

@@ -11,7 +11,7 @@ pub go_on-requires : goal.go_on-requires
 go_on-requires c =
     let ready = table_ready c.requires.accepted_bounded c.requires.joined_table c.requires.none_value.0 c.requires.none_value.1 in record {
       ready = ready;
-      in_work = c.fill_work.ensures.listed 0 0 c.args.joined.now.capacities.now ready.rows.arcs.capacities_long;
+      in_work = c.fill_work.ensures.listed c.args.joined.now.source c.args.joined.now.sink c.args.joined.now.capacities.now ready.rows.arcs.capacities_long;
     }
 
 pub all_full-requires : goal.all_full-requires
