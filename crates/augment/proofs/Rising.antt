@@ -10,6 +10,7 @@ use lib.ListN.{length, get_or, set, length-set}
 use Rattle.rows.specs.Row.{at_place, at_node, Node}
 use Rattle.rows.proofs.Sums.{by_test, by_equal}
 use Rattle.reach.proofs.Visiting.{left_test}
+use Rattle.minimums.specs.BoundedTable.{bounded_of}
 use Rattle.shortest.specs.Ways.{Ways, Leads, ahead, behind, other_end}
 use Rattle.shortest.specs.Distance.{leads_to}
 use Rattle.shortest.specs.Labels.{Labels}
@@ -59,7 +60,7 @@ module _ {w : Ways} {n t : ℕ} {row : List ℕ} (low : Labels w n t row) {i k :
       over j (ahead l e p q) = absurd (not_from p)
       over j (behind l e p q) = omega (arith, above e, ap (at_node row) q)
 
-module _ {n t : ℕ} {tails heads capacities minimums flow row : List ℕ} (rows : Rows n tails heads capacities minimums flow)
+module _ {n s u t : ℕ} {tails heads capacities minimums flow row : List ℕ} (rows : Rows (bounded_of n s u tails heads capacities minimums) flow)
     (low : Labels (row_ways tails heads capacities minimums flow) n t row) {i k : ℕ} (hi : Node n i) (here : k < length capacities) where
   -- The arc has two ends.
   apart : get_or tails k 0 ≡ get_or heads k 0 → ⊥

@@ -15,6 +15,7 @@ use Rattle.rows.proofs.Sums.{by_equal, both_true}
 use Rattle.rows.specs.Row.{at_place, at_node, Node}
 use Rattle.network.specs.Network.{Network, Flow, residual_over}
 use Rattle.reach.proofs.Visiting.{left_test}
+use Rattle.minimums.specs.BoundedTable.{bounded_of}
 use Rattle.shortest.specs.Ways.{Ways, Leads, other_end}
 use Rattle.shortest.specs.Distance.{leads_by, leads_to, lowest, next, chain_from, distances}
 use Rattle.shortest.specs.Labels.{Labels, arrives}
@@ -69,7 +70,7 @@ module _ (dist : List ℕ) (tail head i d : ℕ) (fore back : Bool) where
 
 -- The test of the arc at place k, as the code makes it.
 pub lead_test :
-    {n : ℕ} {tails heads capacities minimums flow : List ℕ} → Rows n tails heads capacities minimums flow → (dist : List ℕ) (d i k : ℕ)
+    {n s t : ℕ} {tails heads capacities minimums flow : List ℕ} → Rows (bounded_of n s t tails heads capacities minimums) flow → (dist : List ℕ) (d i k : ℕ)
     → leads_by (get_or tails k 0) (get_or heads k 0) i (ltb (get_or flow k 0) (get_or capacities k 0)) (ltb (get_or minimums k 0) (get_or flow k 0)) (eqb (at_node dist (get_or heads k 0)) d) (eqb (at_node dist (get_or tails k 0)) d)
     ≡ leads_to (row_ways tails heads capacities minimums flow) dist d i k
 unfolding leads_to

@@ -3,13 +3,17 @@
 
 ghost use Rattle.std.specs.Prelude.{ℕ, ◌+◌, ◌-◌, ◌≤◌, ◌<◌, ◌≡◌, cond, ◌⊎◌, length, get_or, set, replicate, eqb};
 ghost use Rattle.rows.specs.Row.{at_node, Node};
+ghost use Rattle.table.specs.Table.{table_in};
 ghost use Rattle.arcs.specs.Work.{InWork};
+ghost use Rattle.minimums.specs.BoundedTable.{bounded_in};
 ghost use Rattle.shortest.specs.Ways.{other_end};
 ghost use Rattle.shortest.specs.Distance.{leads_by, leads_to, distances, next};
 ghost use Rattle.measuring.specs.Visits.{ListOf};
 ghost use Rattle.augment.specs.Walks.{NoneBelow, Noted, Known, Walked, DeadEnd, Labelled, RiseOver, Rise, Relabelled, Attempted, Found};
 ghost use Rattle.shortest.specs.Augment.{filled, Fits, settled};
-ghost use Rattle.shortest.specs.Rows.{row_ways, given_ways, lent_ways, given_network, lent_network, ends_of, Rows, Ready, Extended};
+ghost use Rattle.shortest.specs.Rows.{bounded_network, bounded_ways, Rows, Ready, Extended};
+
+use minimums::LentBounded;
 
 // Whether the arc may be walked from node i to a node with the label d.
 fn leads(dist: &[u32], d: u32, i: u32, tail: u32, head: u32, fore: bool, back: bool) -> bool
@@ -26,38 +30,25 @@ fn leads(dist: &[u32], d: u32, i: u32, tail: u32, head: u32, fore: bool, back: b
 }
 
 // Whether the arc at place k may be walked from node i to a node with the label d.
-fn leads_at(
-    tails: &[u32],
-    heads: &[u32],
-    capacities: &[u32],
-    minimums: &[u32],
-    flow: &[u32],
-    dist: &[u32],
-    d: u32,
-    i: u32,
-    k: usize,
-) -> bool
-    requires { Rows (length dist.now) tails.now heads.now capacities.now minimums.now flow.now × (k < length capacities.now) }
-    ensures { result ≡ leads_to (lent_ways tails heads capacities minimums flow) dist.now d i k }
+fn leads_at(bounded: &LentBounded, flow: &[u32], dist: &[u32], d: u32, i: u32, k: usize) -> bool
+    requires { Rows (bounded_in bounded.now) flow.now × (length dist.now ≡ bounded.now.table.nodes) × (k < length bounded.now.table.capacities.now) }
+    ensures { result ≡ leads_to (bounded_ways (bounded_in bounded.now) flow.now) dist.now d i k }
 {
     let f = flow[k];
     leads(
         dist,
         d,
         i,
-        tails[k],
-        heads[k],
-        f < capacities[k],
-        minimums[k] < f,
+        bounded.table.tails[k],
+        bounded.table.heads[k],
+        f < bounded.table.capacities[k],
+        bounded.minimums[k] < f,
     )
 }
 
 // The same of the place k where none below `from` may: such a place needs no look at its arc.
 fn leads_past(
-    tails: &[u32],
-    heads: &[u32],
-    capacities: &[u32],
-    minimums: &[u32],
+    bounded: &LentBounded,
     flow: &[u32],
     dist: &[u32],
     d: u32,
@@ -65,19 +56,16 @@ fn leads_past(
     from: usize,
     k: usize,
 ) -> bool
-    requires rows { Rows (length dist.now) tails.now heads.now capacities.now minimums.now flow.now × (k < length capacities.now) }
-    requires none_below { NoneBelow (given_ways tails heads capacities minimums flow) dist.now d i from }
-    ensures { result ≡ leads_to (lent_ways tails heads capacities minimums flow) dist.now d i k }
+    requires rows { Rows (bounded_in bounded.now) flow.now × (length dist.now ≡ bounded.now.table.nodes) × (k < length bounded.now.table.capacities.now) }
+    requires none_below { NoneBelow (bounded_ways (bounded_in bounded.now) flow.now) dist.now d i from }
+    ensures { result ≡ leads_to (bounded_ways (bounded_in bounded.now) flow.now) dist.now d i k }
 {
-    from <= k && leads_at(tails, heads, capacities, minimums, flow, dist, d, i, k)
+    from <= k && leads_at(bounded, flow, dist, d, i, k)
 }
 
 // The lowest place that leads from node i to a node with the label d, by node i's list, or the number of places; none below `from` does.
 fn next_place(
-    tails: &[u32],
-    heads: &[u32],
-    capacities: &[u32],
-    minimums: &[u32],
+    bounded: &LentBounded,
     flow: &[u32],
     list: &[u32],
     dist: &[u32],
@@ -85,20 +73,18 @@ fn next_place(
     i: u32,
     from: usize,
 ) -> usize
-    requires rows { Rows (length dist.now) tails.now heads.now capacities.now minimums.now flow.now }
-    requires list_of { ListOf (given_ways tails heads capacities minimums flow) i list.now }
-    requires none_below { NoneBelow (given_ways tails heads capacities minimums flow) dist.now d i from }
-    ensures { result ≡ next (lent_ways tails heads capacities minimums flow) dist.now d i }
+    requires rows { Rows (bounded_in bounded.now) flow.now × (length dist.now ≡ bounded.now.table.nodes) }
+    requires list_of { ListOf (bounded_ways (bounded_in bounded.now) flow.now) i list.now }
+    requires none_below { NoneBelow (bounded_ways (bounded_in bounded.now) flow.now) dist.now d i from }
+    ensures { result ≡ next (bounded_ways (bounded_in bounded.now) flow.now) dist.now d i }
 {
     for &place in list {
         let k = place as usize;
-        if leads_past(
-            tails, heads, capacities, minimums, flow, dist, d, i, from, k,
-        ) {
+        if leads_past(bounded, flow, dist, d, i, from, k) {
             return k;
         }
     }
-    capacities.len()
+    bounded.table.capacities.len()
 }
 
 // The end of an arc that is not i.
@@ -119,7 +105,8 @@ fn residual_at(
 ) -> u32
     requires k_in_bounds { (k < length tails.now) × (k < length capacities.now) × (k < length minimums.now) × (k < length flow.now) }
     requires k_bound { (get_or minimums.now k 0 ≤ get_or flow.now k 0) × (get_or flow.now k 0 ≤ get_or capacities.now k 0) }
-    ensures { result ≡ cond (eqb (get_or tails.now k 0) i) (get_or capacities.now k 0 - get_or flow.now k 0) (get_or flow.now k 0 - get_or minimums.now k 0) }
+    ensures residual { result ≡ cond (eqb (get_or tails.now k 0) i) (get_or capacities.now k 0 - get_or flow.now k 0) (get_or flow.now k 0 - get_or minimums.now k 0) }
+    ensures fits { (q : ℕ) → get_or capacities.now q 0 ≤ 4294967295 }
 {
     let f = flow[k];
     if tails[k] == i {
@@ -147,42 +134,34 @@ fn noted_of(noted: usize, m: usize) -> usize
 // The lowest place that leads from node i to a node with the label d, or the number of places: the one noted for node i where it leads there still,
 // else by node i's list from there on, and then noted with its far end.
 fn leave_by(
-    tails: &[u32],
-    heads: &[u32],
-    capacities: &[u32],
-    minimums: &[u32],
+    bounded: &LentBounded,
     flow: &[u32],
     work: &[u32],
     dist: &[u32],
-    n: u32,
     d: u32,
     i: u32,
     lowest: &mut [u32],
     far: &mut [u32],
 ) -> usize
-    requires rows { Rows n tails.now heads.now capacities.now minimums.now flow.now }
-    requires in_work { InWork (ends_of n tails.now heads.now capacities.now) work.now }
-    requires dist_len { (length dist.now ≡ n) × (length lowest.old ≡ n) × (length far.old ≡ n) × Node n i × (at_node dist.now i ≡ d + 1) }
-    requires noted_2 { Noted (given_ways tails heads capacities minimums flow) n dist.now lowest.old far.old }
-    ensures place { result ≡ next (lent_ways tails heads capacities minimums flow) dist.now d i }
-    ensures noted { Noted (lent_ways tails heads capacities minimums flow) n dist.now lowest.new far.new }
-    ensures far { result < length capacities.now → at_node far.new i ≡ other_end (lent_ways tails heads capacities minimums flow) i result }
+    requires rows { Rows (bounded_in bounded.now) flow.now }
+    requires in_work { InWork (table_in bounded.now.table) work.now }
+    requires dist_len { (length dist.now ≡ bounded.now.table.nodes) × (length lowest.old ≡ bounded.now.table.nodes) × (length far.old ≡ bounded.now.table.nodes) × Node bounded.now.table.nodes i × (at_node dist.now i ≡ d + 1) }
+    requires noted_2 { Noted (bounded_ways (bounded_in bounded.now) flow.now) bounded.now.table.nodes dist.now lowest.old far.old }
+    ensures place { result ≡ next (bounded_ways (bounded_in bounded.now) flow.now) dist.now d i }
+    ensures noted { Noted (bounded_ways (bounded_in bounded.now) flow.now) bounded.now.table.nodes dist.now lowest.new far.new }
+    ensures far { result < length bounded.now.table.capacities.now → at_node far.new i ≡ other_end (bounded_ways (bounded_in bounded.now) flow.now) i result }
 {
     let at = (i - 1) as usize;
     let noted = lowest[at] as usize;
-    if noted < capacities.len()
-        && leads_at(tails, heads, capacities, minimums, flow, dist, d, i, noted)
-    {
+    if noted < bounded.table.capacities.len() && leads_at(bounded, flow, dist, d, i, noted) {
         return noted;
     }
-    let list = arcs::node_list(work, n, capacities.len(), i);
-    let from = noted_of(noted, capacities.len());
-    let k = next_place(
-        tails, heads, capacities, minimums, flow, list, dist, d, i, from,
-    );
+    let list = arcs::node_list(work, bounded.table.nodes, bounded.table.capacities.len(), i);
+    let from = noted_of(noted, bounded.table.capacities.len());
+    let k = next_place(bounded, flow, list, dist, d, i, from);
     lowest[at] = k as u32;
-    if k < capacities.len() {
-        far[at] = far_at(tails, heads, i, k);
+    if k < bounded.table.capacities.len() {
+        far[at] = far_at(bounded.table.tails, bounded.table.heads, i, k);
     }
     k
 }
@@ -196,13 +175,7 @@ struct Outcome {
 
 // The chain from the source by the labels, at each node by the lowest place that leads one nearer, into the first places of `chain`.
 fn walk(
-    tails: &[u32],
-    heads: &[u32],
-    capacities: &[u32],
-    minimums: &[u32],
-    n: u32,
-    s: u32,
-    t: u32,
+    bounded: &LentBounded,
     flow: &[u32],
     work: &[u32],
     dist: &[u32],
@@ -210,40 +183,39 @@ fn walk(
     far: &mut [u32],
     chain: &mut [u32],
 ) -> Outcome
-    requires ready { Ready n s t tails.now heads.now capacities.now minimums.now flow.now }
-    requires in_work { InWork (ends_of n tails.now heads.now capacities.now) work.now }
-    requires lowest_len { (length lowest.old ≡ n) × (length far.old ≡ n) × (n ≤ length chain.old) }
-    requires known { Known (given_ways tails heads capacities minimums flow) n t dist.now lowest.old far.old }
-    ensures walked { let network = lent_network n s t tails heads capacities minimums in
+    requires ready { Ready (bounded_in bounded.now) flow.now }
+    requires in_work { InWork (table_in bounded.now.table) work.now }
+    requires lowest_len { (length lowest.old ≡ bounded.now.table.nodes) × (length far.old ≡ bounded.now.table.nodes) × (bounded.now.table.nodes ≤ length chain.old) }
+    requires known { Known (bounded_ways (bounded_in bounded.now) flow.now) bounded.now.table.nodes bounded.now.table.sink dist.now lowest.old far.old }
+    ensures walked { let network = bounded_network (bounded_in bounded.now) in
         Walked network flow.now dist.now lowest.new far.new chain.new result.least }
-    ensures dead_end { DeadEnd n dist.now result.least result.end }
+    ensures dead_end { DeadEnd bounded.now.table.nodes dist.now result.least result.end }
 {
-    let mut i = s;
+    let table = &bounded.table;
+    let mut i = table.source;
     let mut least = u32::MAX;
-    let mut d = dist[(s - 1) as usize];
+    let mut d = dist[(table.source - 1) as usize];
     let mut p = 0;
     // Kept: a range over the places, or down the labels, takes 8 to 16 percent longer on long chains.
     while 0 < d {
         d -= 1;
         let at = (i - 1) as usize;
-        let k = leave_by(
-            tails, heads, capacities, minimums, flow, work, dist, n, d, i, lowest, far,
-        );
-        if capacities.len() <= k {
+        let k = leave_by(bounded, flow, work, dist, d, i, lowest, far);
+        if table.capacities.len() <= k {
             return Outcome { least: 0, end: i };
         }
         chain[p] = k as u32;
-        least = least.min(residual_at(tails, capacities, minimums, flow, i, k));
+        least = least.min(residual_at(table.tails, table.capacities, bounded.minimums, flow, i, k));
         i = far[at];
         p += 1;
     }
     Outcome { least, end: i }
 }
 
-// Moves d over the arc at place k away from node i.
-fn move_at(tails: &[u32], flow: &mut [u32], i: u32, k: usize, d: u32)
+// Moves d over the arc at place k away from node i, within its capacity.
+fn move_at(tails: &[u32], capacities: &[u32], flow: &mut [u32], i: u32, k: usize, d: u32)
     requires k_in_bounds { (k < length tails.now) × (k < length flow.old) }
-    requires d_bound { (get_or tails.now k 0 ≡ i → get_or flow.old k 0 + d < 4294967296) × ((get_or tails.now k 0 ≡ i → ⊥) → d ≤ get_or flow.old k 0) }
+    requires d_bound { (get_or tails.now k 0 ≡ i → get_or flow.old k 0 + d ≤ get_or capacities.now k 0) × ((get_or tails.now k 0 ≡ i → ⊥) → d ≤ get_or flow.old k 0) }
     ensures { flow.new ≡ set flow.old k (cond (eqb (get_or tails.now k 0) i) (get_or flow.old k 0 + d) (get_or flow.old k 0 - d)) }
 {
     if tails[k] == i {
@@ -254,55 +226,37 @@ fn move_at(tails: &[u32], flow: &mut [u32], i: u32, k: usize, d: u32)
 }
 
 // Fills the chain from node s on by d.
-fn fill(
-    tails: &[u32],
-    heads: &[u32],
-    capacities: &[u32],
-    minimums: &[u32],
-    flow: &mut [u32],
-    chain: &[u32],
-    n: u32,
-    s: u32,
-    t: u32,
-    d: u32,
-)
-    requires rows { Rows n tails.now heads.now capacities.now minimums.now flow.old }
-    requires fits { Fits (given_network n s t tails heads capacities minimums) d s chain.now flow.old }
+fn fill(bounded: &LentBounded, flow: &mut [u32], chain: &[u32], d: u32)
+    requires rows { Rows (bounded_in bounded.now) flow.old }
+    requires fits { Fits (bounded_network (bounded_in bounded.now)) d bounded.now.table.source chain.now flow.old }
     requires d_nonzero { 0 < d }
-    ensures { flow.new ≡ filled (lent_network n s t tails heads capacities minimums) d s chain.now flow.old }
+    ensures { flow.new ≡ filled (bounded_network (bounded_in bounded.now)) d bounded.now.table.source chain.now flow.old }
 {
-    let mut i = s;
+    let mut i = bounded.table.source;
     for &place in chain {
         let k = place as usize;
-        move_at(tails, flow, i, k, d);
-        i = far_at(tails, heads, i, k);
+        move_at(bounded.table.tails, bounded.table.capacities, flow, i, k, d);
+        i = far_at(bounded.table.tails, bounded.table.heads, i, k);
     }
 }
 
 // Measures the distances anew, and forgets the places noted for the nodes.
 fn measure_anew(
-    tails: &[u32],
-    heads: &[u32],
-    capacities: &[u32],
-    minimums: &[u32],
+    bounded: &LentBounded,
     flow: &[u32],
     work: &[u32],
-    t: u32,
-    n: u32,
     todo: &mut [u32],
     dist: &mut [u32],
     lowest: &mut [u32],
 )
-    requires rows { Rows n tails.now heads.now capacities.now minimums.now flow.now }
-    requires in_work { InWork (ends_of n tails.now heads.now capacities.now) work.now }
-    requires node { Node n t × (length dist.old ≡ n) × (n ≤ length todo.old) }
-    ensures labels { dist.new ≡ distances (lent_ways tails heads capacities minimums flow) n t }
-    ensures none { lowest.new ≡ replicate (length lowest.old) (length capacities.now) }
+    requires rows { Rows (bounded_in bounded.now) flow.now }
+    requires in_work { InWork (table_in bounded.now.table) work.now }
+    requires node { Node bounded.now.table.nodes bounded.now.table.sink × (length dist.old ≡ bounded.now.table.nodes) × (bounded.now.table.nodes ≤ length todo.old) }
+    ensures labels { dist.new ≡ distances (bounded_ways (bounded_in bounded.now) flow.now) bounded.now.table.nodes bounded.now.table.sink }
+    ensures none { lowest.new ≡ replicate (length lowest.old) (length bounded.now.table.capacities.now) }
 {
-    measuring::measure(
-        tails, heads, capacities, minimums, flow, work, t, n, todo, dist,
-    );
-    measuring::reset(lowest, capacities.len() as u32);
+    measuring::measure(bounded, flow, work, todo, dist);
+    measuring::reset(lowest, bounded.table.capacities.len() as u32);
 }
 
 // One above node j's label where the way to it may be walked, else `none`.
@@ -318,90 +272,65 @@ fn one_above(dist: &[u32], j: u32, may: bool, none: u32) -> u32
 }
 
 // To what node i's label may rise as far as the arc at place k goes, one of node i's: one above its far end's label where it may be walked, else n.
-fn rise_over(
-    tails: &[u32],
-    heads: &[u32],
-    capacities: &[u32],
-    minimums: &[u32],
-    flow: &[u32],
-    dist: &[u32],
-    n: u32,
-    i: u32,
-    k: usize,
-) -> u32
-    requires rows { Rows n tails.now heads.now capacities.now minimums.now flow.now }
-    requires labelled { Labelled (given_ways tails heads capacities minimums flow) n dist.now × Node n i }
-    requires k_in_bounds { (k < length capacities.now) × ((get_or tails.now k 0 ≡ i) ⊎ (get_or heads.now k 0 ≡ i)) }
-    ensures { RiseOver (lent_ways tails heads capacities minimums flow) dist.now i k result }
+fn rise_over(bounded: &LentBounded, flow: &[u32], dist: &[u32], i: u32, k: usize) -> u32
+    requires rows { Rows (bounded_in bounded.now) flow.now }
+    requires labelled { Labelled (bounded_ways (bounded_in bounded.now) flow.now) bounded.now.table.nodes dist.now × Node bounded.now.table.nodes i }
+    requires k_in_bounds { (k < length bounded.now.table.capacities.now) × ((get_or bounded.now.table.tails.now k 0 ≡ i) ⊎ (get_or bounded.now.table.heads.now k 0 ≡ i)) }
+    ensures { RiseOver (bounded_ways (bounded_in bounded.now) flow.now) dist.now i k result }
 {
     let f = flow[k];
-    let tail = tails[k];
+    let tail = bounded.table.tails[k];
     if tail == i {
-        one_above(dist, heads[k], f < capacities[k], n)
+        one_above(
+            dist,
+            bounded.table.heads[k],
+            f < bounded.table.capacities[k],
+            bounded.table.nodes,
+        )
     } else {
-        one_above(dist, tail, minimums[k] < f, n)
+        one_above(dist, tail, bounded.minimums[k] < f, bounded.table.nodes)
     }
 }
 
 // To what node i's label may rise, by node i's list: one above the least label of the far ends of its open arcs, at most n.
-fn rise_to(
-    tails: &[u32],
-    heads: &[u32],
-    capacities: &[u32],
-    minimums: &[u32],
-    flow: &[u32],
-    list: &[u32],
-    dist: &[u32],
-    n: u32,
-    i: u32,
-) -> u32
-    requires rows { Rows n tails.now heads.now capacities.now minimums.now flow.now }
-    requires labelled { Labelled (given_ways tails heads capacities minimums flow) n dist.now × Node n i }
-    requires list_of { ListOf (given_ways tails heads capacities minimums flow) i list.now }
-    ensures { Rise (lent_ways tails heads capacities minimums flow) n dist.now i result }
+fn rise_to(bounded: &LentBounded, flow: &[u32], list: &[u32], dist: &[u32], i: u32) -> u32
+    requires rows { Rows (bounded_in bounded.now) flow.now }
+    requires labelled { Labelled (bounded_ways (bounded_in bounded.now) flow.now) bounded.now.table.nodes dist.now × Node bounded.now.table.nodes i }
+    requires list_of { ListOf (bounded_ways (bounded_in bounded.now) flow.now) i list.now }
+    ensures { Rise (bounded_ways (bounded_in bounded.now) flow.now) bounded.now.table.nodes dist.now i result }
 {
-    let mut least = n;
+    let mut least = bounded.table.nodes;
     for &place in list {
         let k = place as usize;
-        least = least.min(rise_over(tails, heads, capacities, minimums, flow, dist, n, i, k));
+        least = least.min(rise_over(bounded, flow, dist, i, k));
     }
     least
 }
 
 // Raises node i's label as far as its open arcs let it, and forgets the place noted for it.
 fn relabel(
-    tails: &[u32],
-    heads: &[u32],
-    capacities: &[u32],
-    minimums: &[u32],
+    bounded: &LentBounded,
     flow: &[u32],
     work: &[u32],
-    n: u32,
     i: u32,
     dist: &mut [u32],
     lowest: &mut [u32],
 )
-    requires rows { Rows n tails.now heads.now capacities.now minimums.now flow.now }
-    requires in_work { InWork (ends_of n tails.now heads.now capacities.now) work.now }
-    requires labelled { Labelled (given_ways tails heads capacities minimums flow) n dist.old × Node n i × (length lowest.old ≡ n) }
-    ensures { Relabelled (lent_ways tails heads capacities minimums flow) n i dist.old lowest.old dist.new lowest.new }
+    requires rows { Rows (bounded_in bounded.now) flow.now }
+    requires in_work { InWork (table_in bounded.now.table) work.now }
+    requires labelled { Labelled (bounded_ways (bounded_in bounded.now) flow.now) bounded.now.table.nodes dist.old × Node bounded.now.table.nodes i × (length lowest.old ≡ bounded.now.table.nodes) }
+    ensures { Relabelled (bounded_ways (bounded_in bounded.now) flow.now) bounded.now.table.nodes i dist.old lowest.old dist.new lowest.new }
 {
-    let list = arcs::node_list(work, n, capacities.len(), i);
-    let label = rise_to(tails, heads, capacities, minimums, flow, list, dist, n, i);
+    let list = arcs::node_list(work, bounded.table.nodes, bounded.table.capacities.len(), i);
+    let label = rise_to(bounded, flow, list, dist, i);
     let at = (i - 1) as usize;
     dist[at] = label;
-    lowest[at] = capacities.len() as u32;
+    lowest[at] = bounded.table.capacities.len() as u32;
 }
 
 // Walks once: the least residual of the chain to fill; or 0, and the node where the walk ended is relabelled.
 fn attempt(
-    tails: &[u32],
-    heads: &[u32],
-    capacities: &[u32],
-    minimums: &[u32],
-    n: u32,
-    s: u32,
-    t: u32,
+    bounded: &LentBounded,
     flow: &[u32],
     work: &[u32],
     dist: &mut [u32],
@@ -409,20 +338,16 @@ fn attempt(
     far: &mut [u32],
     chain: &mut [u32],
 ) -> u32
-    requires ready { Ready n s t tails.now heads.now capacities.now minimums.now flow.now }
-    requires in_work { InWork (ends_of n tails.now heads.now capacities.now) work.now }
-    requires lowest_len { (length lowest.old ≡ n) × (length far.old ≡ n) × (n ≤ length chain.old) }
-    requires known { Known (given_ways tails heads capacities minimums flow) n t dist.old lowest.old far.old }
-    ensures { let network = lent_network n s t tails heads capacities minimums in
+    requires ready { Ready (bounded_in bounded.now) flow.now }
+    requires in_work { InWork (table_in bounded.now.table) work.now }
+    requires lowest_len { (length lowest.old ≡ bounded.now.table.nodes) × (length far.old ≡ bounded.now.table.nodes) × (bounded.now.table.nodes ≤ length chain.old) }
+    requires known { Known (bounded_ways (bounded_in bounded.now) flow.now) bounded.now.table.nodes bounded.now.table.sink dist.old lowest.old far.old }
+    ensures { let network = bounded_network (bounded_in bounded.now) in
         Attempted network flow.now dist.new lowest.new far.new chain.new result }
 {
-    let walked = walk(
-        tails, heads, capacities, minimums, n, s, t, flow, work, dist, lowest, far, chain,
-    );
+    let walked = walk(bounded, flow, work, dist, lowest, far, chain);
     if walked.least == 0 {
-        relabel(
-            tails, heads, capacities, minimums, flow, work, n, walked.end, dist, lowest,
-        );
+        relabel(bounded, flow, work, walked.end, dist, lowest);
     }
     walked.least
 }
@@ -432,13 +357,7 @@ fn attempt(
 // After each walk that does not arrive a label rises: there is none once the source's is n, and after 16 walks all are measured anew. The chain's row serves the
 // measuring before.
 fn find(
-    tails: &[u32],
-    heads: &[u32],
-    capacities: &[u32],
-    minimums: &[u32],
-    n: u32,
-    s: u32,
-    t: u32,
+    bounded: &LentBounded,
     flow: &[u32],
     work: &[u32],
     dist: &mut [u32],
@@ -446,41 +365,29 @@ fn find(
     far: &mut [u32],
     chain: &mut [u32],
 ) -> u32
-    requires ready { Ready n s t tails.now heads.now capacities.now minimums.now flow.now }
-    requires in_work { InWork (ends_of n tails.now heads.now capacities.now) work.now }
-    requires lowest_len { (length lowest.old ≡ n) × (length far.old ≡ n) × (n ≤ length chain.old) }
-    requires known { Known (given_ways tails heads capacities minimums flow) n t dist.old lowest.old far.old }
-    ensures { Found (lent_network n s t tails heads capacities minimums) flow.now dist.new lowest.new far.new chain.new result }
+    requires ready { Ready (bounded_in bounded.now) flow.now }
+    requires in_work { InWork (table_in bounded.now.table) work.now }
+    requires lowest_len { (length lowest.old ≡ bounded.now.table.nodes) × (length far.old ≡ bounded.now.table.nodes) × (bounded.now.table.nodes ≤ length chain.old) }
+    requires known { Known (bounded_ways (bounded_in bounded.now) flow.now) bounded.now.table.nodes bounded.now.table.sink dist.old lowest.old far.old }
+    ensures { Found (bounded_network (bounded_in bounded.now)) flow.now dist.new lowest.new far.new chain.new result }
 {
     for _ in 0..16u32 {
-        let least = attempt(
-            tails, heads, capacities, minimums, n, s, t, flow, work, dist, lowest, far, chain,
-        );
+        let least = attempt(bounded, flow, work, dist, lowest, far, chain);
         if 0 < least {
             return least;
         }
-        if n <= dist[(s - 1) as usize] {
+        if bounded.table.nodes <= dist[(bounded.table.source - 1) as usize] {
             return 0;
         }
     }
-    measure_anew(
-        tails, heads, capacities, minimums, flow, work, t, n, chain, dist, lowest,
-    );
-    let walked = walk(
-        tails, heads, capacities, minimums, n, s, t, flow, work, dist, lowest, far, chain,
-    );
+    measure_anew(bounded, flow, work, chain, dist, lowest);
+    let walked = walk(bounded, flow, work, dist, lowest, far, chain);
     walked.least
 }
 
 // Fills one chain of fewest residual arcs, the first of them by its places, by its least residual; says whether there was one.
 fn extend(
-    tails: &[u32],
-    heads: &[u32],
-    capacities: &[u32],
-    minimums: &[u32],
-    n: u32,
-    s: u32,
-    t: u32,
+    bounded: &LentBounded,
     flow: &mut [u32],
     work: &[u32],
     dist: &mut [u32],
@@ -488,44 +395,25 @@ fn extend(
     far: &mut [u32],
     chain: &mut [u32],
 ) -> bool
-    requires ready { Ready n s t tails.now heads.now capacities.now minimums.now flow.old }
-    requires in_work { InWork (ends_of n tails.now heads.now capacities.now) work.now }
-    requires lowest_len { (length lowest.old ≡ n) × (length far.old ≡ n) × (n ≤ length chain.old) }
-    requires known_2 { Known (row_ways tails.now heads.now capacities.now minimums.now flow.old) n t dist.old lowest.old far.old }
-    ensures row { Extended (lent_network n s t tails heads capacities minimums) flow.old flow.new result }
-    ensures known { Known (row_ways tails.now heads.now capacities.now minimums.now flow.new) n t dist.new lowest.new far.new }
+    requires ready { Ready (bounded_in bounded.now) flow.old }
+    requires in_work { InWork (table_in bounded.now.table) work.now }
+    requires lowest_len { (length lowest.old ≡ bounded.now.table.nodes) × (length far.old ≡ bounded.now.table.nodes) × (bounded.now.table.nodes ≤ length chain.old) }
+    requires known_2 { Known (bounded_ways (bounded_in bounded.now) flow.old) bounded.now.table.nodes bounded.now.table.sink dist.old lowest.old far.old }
+    ensures row { Extended (bounded_network (bounded_in bounded.now)) flow.old flow.new result }
+    ensures known { Known (bounded_ways (bounded_in bounded.now) flow.new) bounded.now.table.nodes bounded.now.table.sink dist.new lowest.new far.new }
 {
-    let least = find(
-        tails, heads, capacities, minimums, n, s, t, flow, work, dist, lowest, far, chain,
-    );
+    let least = find(bounded, flow, work, dist, lowest, far, chain);
     if least == 0 {
         return false;
     }
-    let count = dist[(s - 1) as usize] as usize;
-    fill(
-        tails,
-        heads,
-        capacities,
-        minimums,
-        flow,
-        &chain[..count],
-        n,
-        s,
-        t,
-        least,
-    );
+    let count = dist[(bounded.table.source - 1) as usize] as usize;
+    fill(bounded, flow, &chain[..count], least);
     true
 }
 
 // Fills chains until the sink can't be reached, with a row of n labels, rows for a place and its far end at each node, and one for a chain.
 fn go_on_with(
-    n: u32,
-    s: u32,
-    t: u32,
-    tails: &[u32],
-    heads: &[u32],
-    capacities: &[u32],
-    minimums: &[u32],
+    bounded: &LentBounded,
     flow: &mut [u32],
     work: &[u32],
     dist: &mut [u32],
@@ -533,48 +421,28 @@ fn go_on_with(
     far: &mut [u32],
     chain: &mut [u32],
 )
-    requires ready { Ready n s t tails.now heads.now capacities.now minimums.now flow.old }
-    requires in_work { InWork (ends_of n tails.now heads.now capacities.now) work.now }
-    requires dist_len { (length dist.old ≡ n) × (length lowest.old ≡ n) × (length far.old ≡ n) × (n ≤ length chain.old) }
-    ensures { flow.new ≡ settled (lent_network n s t tails heads capacities minimums) flow.old }
+    requires ready { Ready (bounded_in bounded.now) flow.old }
+    requires in_work { InWork (table_in bounded.now.table) work.now }
+    requires dist_len { (length dist.old ≡ bounded.now.table.nodes) × (length lowest.old ≡ bounded.now.table.nodes) × (length far.old ≡ bounded.now.table.nodes) × (bounded.now.table.nodes ≤ length chain.old) }
+    ensures { flow.new ≡ settled (bounded_network (bounded_in bounded.now)) flow.old }
 {
-    measure_anew(
-        tails, heads, capacities, minimums, flow, work, t, n, chain, dist, lowest,
-    );
-    while extend(
-        tails, heads, capacities, minimums, n, s, t, flow, work, dist, lowest, far, chain,
-    ) {}
+    measure_anew(bounded, flow, work, chain, dist, lowest);
+    while extend(bounded, flow, work, dist, lowest, far, chain) {}
 }
 
 // Goes on from the flow row along chains of fewest residual arcs, each filled by its least residual, until the sink can't be reached. The nodes' lists stand in the work row.
-pub fn go_on(
-    n: u32,
-    s: u32,
-    t: u32,
-    tails: &[u32],
-    heads: &[u32],
-    capacities: &[u32],
-    minimums: &[u32],
-    flow: &mut [u32],
-    work: &[u32],
-)
-    requires ready { Ready n s t tails.now heads.now capacities.now minimums.now flow.old }
-    requires in_work { InWork (ends_of n tails.now heads.now capacities.now) work.now }
-    ensures { flow.new ≡ settled (lent_network n s t tails heads capacities minimums) flow.old }
+pub fn go_on(bounded: &LentBounded, flow: &mut [u32], work: &[u32])
+    requires ready { Ready (bounded_in bounded.now) flow.old }
+    requires in_work { InWork (table_in bounded.now.table) work.now }
+    ensures { flow.new ≡ settled (bounded_network (bounded_in bounded.now)) flow.old }
 {
     let mut dist = [0u32; 514];
     let mut lowest = [0u32; 514];
     let mut far = [0u32; 514];
     let mut chain = [0u32; 514];
-    let nodes = n as usize;
+    let nodes = bounded.table.nodes as usize;
     go_on_with(
-        n,
-        s,
-        t,
-        tails,
-        heads,
-        capacities,
-        minimums,
+        bounded,
         flow,
         work,
         &mut dist[..nodes],

@@ -85,7 +85,7 @@ module _ {n s t : ℕ} {tails heads capacities minimums flow₀ side₀ spare mo
     first_long = long_front _ (length minimums) flow₁ flow₀ adds.0.1 first
 
     -- The flow with the minimums is ready to go on from.
-    pub ready : Ready n s t tails heads capacities minimums flow₁
+    pub ready : Ready (bounded_of n s t tails heads capacities minimums) flow₁
     ready =
         let many = as_many in
         record {

@@ -32,7 +32,7 @@ own_rows size h =
     }
 
 module _ {n s t : ℕ} {tails heads capacities minimums tails₂ heads₂ capacities₂ : List ℕ}
-    (joined : JoinedRows n s t tails heads capacities minimums tails₂ heads₂ capacities₂) where
+    (joined : JoinedRows (bounded_of n s t tails heads capacities minimums) tails₂ heads₂ capacities₂) where
   -- The first of the joined capacities are enough rows,
   pub room_for : length capacities ≤ length capacities₂
   room_for = omega (arith, capacities_long joined)

@@ -19,8 +19,7 @@ use Rattle.feasible.specs.Flows.{bounded_network}
 use Rattle.feasible.proofs.Accepting.{bounded_sound}
 use Rattle.bounded.specs.Bounded.{bounded_side, value_of, GreatestBounded}
 use Rattle.bounded.specs.Solving.{Holds, Leaves}
-use Rattle.bounded.specs.declared.Bounded.{Bounded}
-use Rattle.bounded.specs.declared.Bounded.TheVariants.{Impossible, Value}
+use Rattle.std.specs.Prelude.{Option, Some, None}
 use Rattle.bounded.proofs.Signed.{same, order_only}
 
 module _ (b : BoundedTable) {flow side flow' side' : List ℕ} {value value' : ℤ}
@@ -90,12 +89,12 @@ side_later b a {flow} {side} {flow₁} {side₁} holds =
     (length_of_side (bounded_network b) (at_place (take (arcs b.table) flow₁)) (bounded_sound b a))
 
 -- Two ends of one call: the same answer and the same side row.
-pub leaves_same : (b : BoundedTable) → AcceptedBounded b → (flow side flow₁ side₁ flow₂ side₂ : List ℕ) (r q : Bounded)
+pub leaves_same : (b : BoundedTable) → AcceptedBounded b → (flow side flow₁ side₁ flow₂ side₂ : List ℕ) (r q : Option ℤ)
     → Leaves b flow side r flow₁ side₁ → Leaves b flow side q flow₂ side₂ → (r ≡ q) × (side₁ ≡ side₂)
-leaves_same b a flow side flow₁ side₁ flow₂ side₂ Impossible Impossible l m = (refl, l.1.1 ∙ sym m.1.1)
-leaves_same b a flow side flow₁ side₁ flow₂ side₂ Impossible (Value v) l m = absurd (l.0 _ m.1.keeps)
-leaves_same b a flow side flow₁ side₁ flow₂ side₂ (Value v) Impossible l m = absurd (m.0 _ l.1.keeps)
-leaves_same b a flow side flow₁ side₁ flow₂ side₂ (Value v) (Value w) l m = (
-  ap Value (value_same b l.1 m.1),
+leaves_same b a flow side flow₁ side₁ flow₂ side₂ None None l m = (refl, l.1.1 ∙ sym m.1.1)
+leaves_same b a flow side flow₁ side₁ flow₂ side₂ None (Some v) l m = absurd (l.0 _ m.1.keeps)
+leaves_same b a flow side flow₁ side₁ flow₂ side₂ (Some v) None l m = absurd (m.0 _ l.1.keeps)
+leaves_same b a flow side flow₁ side₁ flow₂ side₂ (Some v) (Some w) l m = (
+  ap Some (value_same b l.1 m.1),
   l.0.side_row ∙ ap (λ r. r ++ drop b.table.nodes side) (sides_same b a l.0 l.1 m.0 m.1) ∙ sym m.0.side_row,
 )

@@ -1,13 +1,11 @@
 -- Document 02, CR 11: what solving a table with minimums answers, and what the lent rows hold afterwards.
-use Rattle.std.specs.Prelude.{ℕ, ◌+◌, ◌-◌, ◌≤◌, ◌<◌, ◌≡◌, List, ◌++◌, length, take, drop, replicate}
+use Rattle.std.specs.Prelude.{ℕ, ◌+◌, ◌-◌, ◌≤◌, ◌<◌, ◌≡◌, List, ◌++◌, length, take, drop, replicate, ℤ, Option, Some, None}
 use Rattle.rows.specs.Row.{at_place}
 use Rattle.arcs.specs.Work.{work_end}
 use Rattle.table.specs.Table.{arcs, capacity}
 use Rattle.minimums.specs.BoundedTable.{BoundedTable, AcceptedBounded, minimum}
 use Rattle.feasible.specs.Flows.{BoundedFlow, NoFlow}
 use Rattle.bounded.specs.Bounded.{bounded_side, GreatestBounded}
-use Rattle.bounded.specs.declared.Bounded.{Bounded}
-use Rattle.bounded.specs.declared.Bounded.TheVariants.{Impossible, Value}
 
 -- What solving asks: an accepted bounded table, and rows with room for a flow of each arc and a mark of each node.
 pub record Solvable (b : BoundedTable) (flow side : List ℕ) : Type 0 where
@@ -37,9 +35,9 @@ pub record Holds (b : BoundedTable) (flow₀ side₀ flow side : List ℕ) : Typ
   pub flow_later : drop (arcs b.table) flow ≡ drop (arcs b.table) flow₀
   pub side_row : side ≡ bounded_side b (take (arcs b.table) flow) ++ drop b.table.nodes side₀
 
--- What solving leaves, by its answer. IMPOSSIBLE: no flow keeps all arcs between their numbers, and the rows are unchanged. A value: the rows hold a
+-- What solving leaves, by its answer. None: no flow keeps all arcs between their numbers, and the rows are unchanged. A value: the rows hold a
 -- flow of that value, none has a larger one, and the smallest side; later places are unchanged. Which greatest flow it is stays free.
-abbrev pub Leaves : BoundedTable → (flow₀ side₀ : List ℕ) → Bounded → (flow side : List ℕ) → Type 0
-Leaves b flow₀ side₀ Impossible flow side = NoFlow b × ((flow ≡ flow₀) × (side ≡ side₀))
-Leaves b flow₀ side₀ (Value v) flow side =
+abbrev pub Leaves : BoundedTable → (flow₀ side₀ : List ℕ) → Option ℤ → (flow side : List ℕ) → Type 0
+Leaves b flow₀ side₀ None flow side = NoFlow b × ((flow ≡ flow₀) × (side ≡ side₀))
+Leaves b flow₀ side₀ (Some v) flow side =
     Holds b flow₀ side₀ flow side × GreatestBounded b (take (arcs b.table) flow) (take b.table.nodes side) v

@@ -1,23 +1,16 @@
 // Document 02, CR 11: solves a table whose arcs have a least flow: a flow of greatest value among those that keep every arc between its two numbers.
 #![tactic(auto)]
 
-ghost use Rattle.std.specs.Prelude.{◌≡◌, ◌++◌, ℕ, ◌+◌, ◌-◌, ◌≤◌, ◌<◌, pos, ◌-ℤ◌, length, drop};
+ghost use Rattle.std.specs.Prelude.{◌≡◌, ◌++◌, ℕ, ◌+◌, ◌-◌, ◌≤◌, ◌<◌, pos, ◌-ℤ◌, length, drop, Some};
 ghost use Rattle.rows.specs.Row.{at_place, by_place};
 ghost use Rattle.start.specs.Sums.{sum_at};
 ghost use Rattle.arcs.specs.Work.{work_end};
-ghost use Rattle.minimums.specs.BoundedTable.{given_bounded, lent_bounded};
+ghost use Rattle.minimums.specs.BoundedTable.{bounded_in};
 ghost use Rattle.joining.specs.Joining.{joined_arcs, Small};
 ghost use Rattle.bounded.specs.Solving.{Solvable, OwnRows, Above, Leaves};
-ghost use Rattle.bounded.specs.declared.Bounded.TheVariants.{Value};
 
+use minimums::LentBounded;
 use table::LentTable;
-
-// What solving answers: no flow keeps all arcs between their numbers, or the greatest value.
-#[derive(Clone, Copy)]
-pub enum Bounded {
-    Impossible,
-    Value(i64),
-}
 
 // The first places of the flow row: what flows above the minimums, and the minimums.
 fn add_minimums(more: &[u32], minimums: &[u32], flow: &mut [u32])
@@ -53,53 +46,34 @@ fn net_out(tails: &[u32], heads: &[u32], flow: &[u32], s: u32) -> i64
 
 // Goes on from the flow that is `more` above the minimums to one of greatest value, marks its side, and returns the value. `spare` is what the capacities leave above the minimums.
 fn greatest(
-    n: u32,
-    s: u32,
-    t: u32,
-    tails: &[u32],
-    heads: &[u32],
-    capacities: &[u32],
-    minimums: &[u32],
+    bounded: &LentBounded,
     spare: &[u32],
     more: &mut [u32],
     lists: &mut [u32],
     flow: &mut [u32],
     side: &mut [u8],
 ) -> i64
-    requires solvable { Solvable (given_bounded n s t tails heads capacities minimums) flow.old side.old }
-    requires above { Above (given_bounded n s t tails heads capacities minimums) spare.now more.old }
+    requires solvable { Solvable (bounded_in bounded.now) flow.old side.old }
+    requires above { Above (bounded_in bounded.now) spare.now more.old }
     requires work_end_in_bounds { work_end 514 5122 ≤ length lists.old }
-    ensures { Leaves (lent_bounded n s t tails heads capacities minimums) flow.old side.old (Value result) flow.new side.new }
+    ensures { Leaves (bounded_in bounded.now) flow.old side.old (Some result) flow.new side.new }
 {
-    let table = LentTable {
-        nodes: n,
-        source: s,
-        sink: t,
-        tails,
-        heads,
-        capacities,
-    };
+    let table = &bounded.table;
     let above = LentTable {
         capacities: spare,
-        ..table
+        ..*table
     };
-    add_minimums(more, minimums, flow);
-    arcs::fill_work(&table, lists);
-    augment::go_on(n, s, t, tails, heads, capacities, minimums, flow, lists);
-    take_minimums(flow, minimums, more);
+    add_minimums(more, bounded.minimums, flow);
+    arcs::fill_work(table, lists);
+    augment::go_on(bounded, flow, lists);
+    take_minimums(flow, bounded.minimums, more);
     reach::mark(&above, more, lists, side);
-    net_out(tails, heads, flow, s)
+    net_out(table.tails, table.heads, flow, table.source)
 }
 
 // Solves an accepted bounded table with room, in rows of its own.
 fn solve_in(
-    n: u32,
-    s: u32,
-    t: u32,
-    tails: &[u32],
-    heads: &[u32],
-    capacities: &[u32],
-    minimums: &[u32],
+    bounded: &LentBounded,
     from: &mut [u32],
     to: &mut [u32],
     limits: &mut [u32],
@@ -108,51 +82,32 @@ fn solve_in(
     lists: &mut [u32],
     flow: &mut [u32],
     side: &mut [u8],
-) -> Bounded
-    requires solvable { Solvable (given_bounded n s t tails heads capacities minimums) flow.old side.old }
-    requires own_rows { OwnRows (joined_arcs n (length capacities.now)) from.old to.old limits.old none.now more.old lists.old }
-    ensures { Leaves (lent_bounded n s t tails heads capacities minimums) flow.old side.old result flow.new side.new }
+) -> Option<i64>
+    requires solvable { Solvable (bounded_in bounded.now) flow.old side.old }
+    requires own_rows { OwnRows (joined_arcs bounded.now.table.nodes (length bounded.now.table.capacities.now)) from.old to.old limits.old none.now more.old lists.old }
+    ensures { Leaves (bounded_in bounded.now) flow.old side.old result flow.new side.new }
 {
-    joining::join(
-        n, s, t, tails, heads, capacities, minimums, from, to, limits,
-    );
-    if !feasible::feasible(
-        n, s, t, tails, heads, capacities, minimums, from, to, limits, none, more, lists,
-    ) {
-        return Bounded::Impossible;
+    joining::join(bounded, from, to, limits);
+    let nodes = bounded.table.nodes;
+    let joined = LentTable {
+        nodes: nodes + 2,
+        source: nodes + 1,
+        sink: nodes + 2,
+        tails: from,
+        heads: to,
+        capacities: limits,
+    };
+    if !feasible::feasible(bounded, &joined, none, more, lists) {
+        return None;
     }
-    let m = capacities.len();
-    let value = greatest(
-        n,
-        s,
-        t,
-        tails,
-        heads,
-        capacities,
-        minimums,
-        &limits[..m],
-        more,
-        lists,
-        flow,
-        side,
-    );
-    Bounded::Value(value)
+    let spare = &limits[..bounded.table.capacities.len()];
+    Some(greatest(bounded, spare, more, lists, flow, side))
 }
 
 // Solves an accepted table with minimums: a flow of greatest value among those that keep every arc between its two numbers, with the smallest side; or no flow does.
-pub fn solve_bounded(
-    n: u32,
-    s: u32,
-    t: u32,
-    tails: &[u32],
-    heads: &[u32],
-    capacities: &[u32],
-    minimums: &[u32],
-    flow: &mut [u32],
-    side: &mut [u8],
-) -> Bounded
-    requires { Solvable (given_bounded n s t tails heads capacities minimums) flow.old side.old }
-    ensures { Leaves (lent_bounded n s t tails heads capacities minimums) flow.old side.old result flow.new side.new }
+pub fn solve_bounded(bounded: &LentBounded, flow: &mut [u32], side: &mut [u8]) -> Option<i64>
+    requires { Solvable (bounded_in bounded.now) flow.old side.old }
+    ensures { Leaves (bounded_in bounded.now) flow.old side.old result flow.new side.new }
 {
     let mut from = [0u32; 5122];
     let mut to = [0u32; 5122];
@@ -160,16 +115,10 @@ pub fn solve_bounded(
     let none = [0u32; 5122];
     let mut more = [0u32; 5122];
     let mut lists = [0u32; 4 * 514 + 2 * 5122 + 1];
-    let nodes = n as usize;
-    let size = capacities.len() + (nodes + (nodes + 2));
+    let nodes = bounded.table.nodes as usize;
+    let size = bounded.table.capacities.len() + (nodes + (nodes + 2));
     solve_in(
-        n,
-        s,
-        t,
-        tails,
-        heads,
-        capacities,
-        minimums,
+        bounded,
         &mut from[..size],
         &mut to[..size],
         &mut limits[..size],

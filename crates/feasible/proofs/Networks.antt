@@ -19,8 +19,9 @@ use Rattle.arcs.specs.Ends.{WideEnds}
 use Rattle.arcs.specs.Work.{work_end}
 use Rattle.joined.specs.Joined.{Joins}
 use Rattle.joined.proofs.Joining.{joined_sound, largest_fills, filled_flow}
-use Rattle.minimums.specs.BoundedTable.{bounded_of, AcceptedBounded}
-use Rattle.joining.specs.Joining.{joined_arcs, JoinedRows}
+use Rattle.table.specs.Table.{Table}
+use Rattle.minimums.specs.BoundedTable.{BoundedTable, bounded_of, AcceptedBounded}
+use Rattle.joining.specs.Joining.{joined_arcs, joined_table, JoinedRows}
 use Rattle.joining.proofs.Blocks.{block_old, block_in, block_out, block_forth, block_back, block_last}
 use Rattle.feasible.specs.Flows.{bounded_network, BoundedFlow, NoFlow}
 use Rattle.feasible.specs.Filling.{Full}
@@ -52,7 +53,7 @@ module _ (N : Network) (places i : ℕ) where
   none_leaves = sum_zero N.m _ (λ k _. ap (only (eqb (N.tail k) i)) (zero_at places k) ∙ only_of_zero (eqb (N.tail k) i))
 
 module _ {n s t : ℕ} {tails heads capacities minimums : List ℕ} (accepted : AcceptedBounded (bounded_of n s t tails heads capacities minimums))
-    {tails₂ heads₂ capacities₂ zeros : List ℕ} (joined : JoinedRows n s t tails heads capacities minimums tails₂ heads₂ capacities₂)
+    {tails₂ heads₂ capacities₂ zeros : List ℕ} (joined : JoinedRows (bounded_of n s t tails heads capacities minimums) tails₂ heads₂ capacities₂)
     (zeros_are : zeros ≡ replicate (joined_arcs n (length capacities)) 0) where
   -- The bounded network, and the joined one.
   abbrev N : Network
@@ -128,7 +129,7 @@ module _ {n s t : ℕ} {tails heads capacities minimums : List ℕ} (accepted : 
         })
 
     -- so the joined rows are ready to go on,
-    pub joined_ready : Ready (n + 2) (n + 1) (n + 2) tails₂ heads₂ capacities₂ zeros flow₂
+    pub joined_ready : Ready (bounded_of (n + 2) (n + 1) (n + 2) tails₂ heads₂ capacities₂ zeros) flow₂
     joined_ready =
         let few = accepted.rows.arcs.ends.few_arcs in
         let nodes = accepted.rows.arcs.ends.few_nodes in
@@ -193,3 +194,37 @@ module _ {n s t : ℕ} {tails heads capacities minimums : List ℕ} (accepted : 
       pub feasible_by : (yes : Bool) → Full capacities₂ gone m (m + n) yes → Feasible (bounded_of n s t tails heads capacities minimums) gone yes
       feasible_by true full = record { keeps = λ _. full_keeps full; none = λ e. absurd (true≢false e) }
       feasible_by false full = record { keeps = λ e. absurd (true≢false (sym e)); none = λ _. not_full_none full }
+
+-- The same of a table that is the joined one.
+module _ {b : BoundedTable} (accepted : AcceptedBounded b) {t : Table} (is : t ≡ joined_table b) {zeros flow : List ℕ}
+    (zeros_are : zeros ≡ replicate (joined_arcs b.table.nodes (length b.table.capacities)) 0)
+    (nothing : flow ≡ replicate (joined_arcs b.table.nodes (length b.table.capacities)) 0) where
+  -- Its rows are the joined ones,
+  hold : JoinedRows b (joined_table b).tails (joined_table b).heads (joined_table b).capacities
+  hold = record { tails_hold = refl; heads_hold = refl; capacities_hold = refl }
+
+  -- ready to go on,
+  pub table_ready : Ready (record { table = t; minimums = zeros }) flow
+  table_ready =
+      subst (λ (j : Table). Ready (record { table = j; minimums = zeros }) flow) (sym is) (joined_ready accepted hold zeros_are nothing)
+
+  -- with room for their lists;
+  pub table_lists : (room : ℕ) → work_end 514 5122 ≤ room → WideEnds t.nodes t.tails t.heads × (work_end t.nodes (length t.tails) ≤ room)
+  table_lists room h =
+      subst (λ (j : Table). WideEnds j.nodes j.tails j.heads × (work_end j.nodes (length j.tails) ≤ room)) (sym is)
+      (joined_lists accepted hold zeros_are nothing room h)
+
+  -- as many capacities as it has arcs;
+  pub table_long : length t.capacities ≡ joined_arcs b.table.nodes (length b.table.capacities)
+  table_long = ap (λ (j : Table). length j.capacities) is ∙ capacities_long hold
+
+  -- and the test of the new source's arcs tells.
+  pub table_tells : {gone : List ℕ} → gone ≡ settled (bound_network t.nodes t.source t.sink t.tails t.heads t.capacities zeros) flow → (yes : Bool)
+      → Full t.capacities gone (length b.table.capacities) (length b.table.capacities + b.table.nodes) yes → Feasible b gone yes
+  table_tells {gone} =
+      subst
+      (λ (j : Table).
+      gone ≡ settled (bound_network j.nodes j.source j.sink j.tails j.heads j.capacities zeros) flow → (yes : Bool)
+      → Full j.capacities gone (length b.table.capacities) (length b.table.capacities + b.table.nodes) yes → Feasible b gone yes)
+      (sym is)
+      (λ so yes full. feasible_by accepted hold zeros_are nothing so yes full)

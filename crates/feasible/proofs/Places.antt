@@ -6,11 +6,12 @@ use native.Mathlib.Omega.{arith}
 use lib.ListN.{length}
 use Rattle.rows.specs.Row.{at_place}
 use Rattle.rows.proofs.Rows.{length_places, at_places}
+use Rattle.minimums.specs.BoundedTable.{bounded_of}
 use Rattle.joining.specs.Joining.{joined_arcs, joined_tail, joined_head, joined_capacity, JoinedRows}
 use Rattle.joining.proofs.Blocks.{block_old}
 
 module _ {n s t : ℕ} {tails heads capacities minimums tails₂ heads₂ capacities₂ : List ℕ}
-    (joined : JoinedRows n s t tails heads capacities minimums tails₂ heads₂ capacities₂) where
+    (joined : JoinedRows (bounded_of n s t tails heads capacities minimums) tails₂ heads₂ capacities₂) where
   -- How many arcs the table has.
   abbrev m : ℕ
   m = length capacities

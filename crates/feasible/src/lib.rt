@@ -3,11 +3,13 @@
 
 ghost use Rattle.std.specs.Prelude.{◌≡◌, ◌≤◌, length, replicate};
 ghost use Rattle.arcs.specs.Work.{work_end};
-ghost use Rattle.minimums.specs.BoundedTable.{given_bounded, lent_bounded, AcceptedBounded};
-ghost use Rattle.joining.specs.Joining.{joined_arcs, JoinedRows};
+ghost use Rattle.table.specs.Table.{table_in};
+ghost use Rattle.minimums.specs.BoundedTable.{bounded_in, AcceptedBounded};
+ghost use Rattle.joining.specs.Joining.{joined_arcs, joined_table};
 ghost use Rattle.feasible.specs.Filling.{Full};
 ghost use Rattle.feasible.specs.Deciding.{Feasible};
 
+use minimums::LentBounded;
 use table::LentTable;
 
 // Whether the arcs from place `from` up to place `to` are all full.
@@ -20,38 +22,29 @@ fn all_full(capacities: &[u32], flow: &[u32], from: usize, to: usize) -> bool
 
 // Whether some flow keeps all arcs between their numbers. `none` and `more` come as zeros; where one does, what `more` then holds above the minimums is such a flow.
 pub fn feasible(
-    n: u32,
-    s: u32,
-    t: u32,
-    tails: &[u32],
-    heads: &[u32],
-    capacities: &[u32],
-    minimums: &[u32],
-    from: &[u32],
-    to: &[u32],
-    limits: &[u32],
+    bounded: &LentBounded,
+    joined: &LentTable,
     none: &[u32],
     more: &mut [u32],
     lists: &mut [u32],
 ) -> bool
-    requires accepted_bounded { AcceptedBounded (given_bounded n s t tails heads capacities minimums) }
-    requires joined_rows { JoinedRows n s t tails.now heads.now capacities.now minimums.now from.now to.now limits.now }
-    requires none_value { (none.now ≡ replicate (joined_arcs n (length capacities.now)) 0) × (more.old ≡ replicate (joined_arcs n (length capacities.now)) 0) }
+    requires accepted_bounded { AcceptedBounded (bounded_in bounded.now) }
+    requires joined_table { table_in joined.now ≡ joined_table (bounded_in bounded.now) }
+    requires none_value { let arcs = joined_arcs bounded.now.table.nodes (length bounded.now.table.capacities.now) in (none.now ≡ replicate arcs 0) × (more.old ≡ replicate arcs 0) }
     requires work_end_in_bounds { work_end 514 5122 ≤ length lists.old }
-    ensures { Feasible (lent_bounded n s t tails heads capacities minimums) more.new result }
+    ensures { Feasible (bounded_in bounded.now) more.new result }
 {
-    let source = n + 1;
-    let sink = n + 2;
-    let joined = LentTable {
-        nodes: sink,
-        source,
-        sink,
-        tails: from,
-        heads: to,
-        capacities: limits,
+    arcs::fill_work(joined, lists);
+    let network = LentBounded {
+        table: *joined,
+        minimums: none,
     };
-    arcs::fill_work(&joined, lists);
-    augment::go_on(sink, source, sink, from, to, limits, none, more, lists);
-    let m = capacities.len();
-    all_full(limits, more, m, m + (n as usize))
+    augment::go_on(&network, more, lists);
+    let m = bounded.table.capacities.len();
+    all_full(
+        joined.capacities,
+        more,
+        m,
+        m + (bounded.table.nodes as usize),
+    )
 }

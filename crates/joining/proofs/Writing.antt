@@ -5,7 +5,7 @@ use mathlib.Core.List.{List}
 use native.Mathlib.Omega.{arith}
 use lib.ListN.{length}
 use Rattle.rows.specs.Row.{by_place}
-use Rattle.minimums.specs.BoundedTable.{BoundedRows}
+use Rattle.minimums.specs.BoundedTable.{bounded_of, BoundedRows}
 use Rattle.joining.specs.Joining.{joined_arcs, joined_tail, joined_head, joined_capacity, Summable, JoinedRows}
 use Rattle.joining.proofs.Sums.{small_minimums}
 
@@ -27,7 +27,7 @@ module _ {n : ℕ} {tails heads capacities minimums : List ℕ} (rows : BoundedR
   pub rows_hold : {s t : ℕ} {tails₂ heads₂ capacities₂ : List ℕ} → tails₂ ≡ by_place (joined_tail n s t tails (length tails)) (joined_arcs n (length tails))
       → heads₂ ≡ by_place (joined_head n s t heads (length tails)) (joined_arcs n (length tails))
       → capacities₂ ≡ by_place (joined_capacity n tails heads capacities minimums (length minimums)) (joined_arcs n (length minimums))
-      → JoinedRows n s t tails heads capacities minimums tails₂ heads₂ capacities₂
+      → JoinedRows (bounded_of n s t tails heads capacities minimums) tails₂ heads₂ capacities₂
   rows_hold {s} {t} ea eb ec =
       record {
         tails_hold = ea ∙ ap (λ m. by_place (joined_tail n s t tails m) (joined_arcs n m)) (sym rows.arcs.capacities_long);

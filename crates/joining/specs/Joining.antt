@@ -1,7 +1,9 @@
 -- The rows of the joined network: two nodes and 2n + 2 arcs more. For the contracts of the functions that write them.
 use Rattle.std.specs.Prelude.{ℕ, ◌+◌, ◌-◌, ◌≤◌, ◌<◌, ◌≡◌, cond, List, eqb, ltb, length}
 use Rattle.rows.specs.Row.{at_place, by_place}
+use Rattle.table.specs.Table.{Table, table_of}
 use Rattle.table.specs.Accepted.{ArcEnds}
+use Rattle.minimums.specs.BoundedTable.{BoundedTable}
 use Rattle.start.specs.Sums.{sum_at}
 
 -- How many arcs the joined network has: m, one from the new source to each node, one from each node to the new sink, and two more.
@@ -55,8 +57,18 @@ pub record Summable (n : ℕ) (tails heads capacities minimums : List ℕ) : Typ
   pub at_tails : Small tails minimums
   pub at_heads : Small heads minimums
 
+-- The joined network of a bounded table, as a table: two nodes more, its source and its sink.
+abbrev pub joined_table : BoundedTable → Table
+joined_table b =
+    let n = b.table.nodes in
+    let m = length b.table.capacities in
+    table_of (n + 2) (n + 1) (n + 2)
+    (by_place (joined_tail n b.table.source b.table.sink b.table.tails m) (joined_arcs n m))
+    (by_place (joined_head n b.table.source b.table.sink b.table.heads m) (joined_arcs n m))
+    (by_place (joined_capacity n b.table.tails b.table.heads b.table.capacities b.minimums m) (joined_arcs n m))
+
 -- Three rows of the joined network's arcs.
-pub record JoinedRows (n s t : ℕ) (tails heads capacities minimums tails₂ heads₂ capacities₂ : List ℕ) : Type 0 where
-  pub tails_hold : tails₂ ≡ by_place (joined_tail n s t tails (length capacities)) (joined_arcs n (length capacities))
-  pub heads_hold : heads₂ ≡ by_place (joined_head n s t heads (length capacities)) (joined_arcs n (length capacities))
-  pub capacities_hold : capacities₂ ≡ by_place (joined_capacity n tails heads capacities minimums (length capacities)) (joined_arcs n (length capacities))
+pub record JoinedRows (b : BoundedTable) (tails heads capacities : List ℕ) : Type 0 where
+  pub tails_hold : tails ≡ (joined_table b).tails
+  pub heads_hold : heads ≡ (joined_table b).heads
+  pub capacities_hold : capacities ≡ (joined_table b).capacities

@@ -11,11 +11,12 @@ use lib.Seq.{get_or-append_seam}
 use borrow.Author.Tests.{ltb-true, ltb-false, eqb-true, eq-eqb}
 use Rattle.rows.specs.Row.{at_place}
 use Rattle.rows.proofs.Sums.{by_test}
-use Rattle.table.specs.Table.{Table}
+use Rattle.table.specs.Table.{Table, table_of}
 use Rattle.arcs.specs.Residual.{touches, list_to, list}
 use Rattle.arcs.proofs.Members.{list_touches, touches_list, stands_member, member_stands}
 use Rattle.measuring.specs.Visits.{ListOf}
-use Rattle.shortest.specs.Rows.{row_ways, ends_of, Rows}
+use Rattle.minimums.specs.BoundedTable.{bounded_of}
+use Rattle.shortest.specs.Rows.{row_ways, Rows}
 
 -- One place more at the end of a list: each from before stays, and the last is the new one.
 module _ (l : List ℕ) (m : ℕ) where
@@ -76,10 +77,10 @@ one_passes a b x y (inl p) = rw (eq-eqb a x p)
 one_passes a b x y (inr p) = by_test (eqb a x) (λ e. rw e) (λ e. rw (e, eq-eqb b y p))
 
 -- A node's list has the places of the residual arcs that touch it.
-pub listed : {n : ℕ} {tails heads capacities minimums flow : List ℕ} → Rows n tails heads capacities minimums flow → (i : ℕ)
-    → ListOf (row_ways tails heads capacities minimums flow) i (list (ends_of n tails heads capacities) i)
+pub listed : {n s u : ℕ} {tails heads capacities minimums flow : List ℕ} → Rows (bounded_of n s u tails heads capacities minimums) flow → (i : ℕ)
+    → ListOf (row_ways tails heads capacities minimums flow) i (list (table_of n s u tails heads capacities) i)
 unfolding list
-listed {n} {tails} {heads} {capacities} rows i =
+listed {n} {s} {u} {tails} {heads} {capacities} rows i =
     record {
       each = λ q h. below_to t i (length capacities) q h;
       touching = λ q h. either (at_place tails (at_place (list_to t i (length capacities)) q)) (at_place heads (at_place (list_to t i (length capacities)) q)) i i (touch q h);
@@ -88,7 +89,7 @@ listed {n} {tails} {heads} {capacities} rows i =
     }
   where
     t : Table
-    t = ends_of n tails heads capacities
+    t = table_of n s u tails heads capacities
 
-    touch : (q : ℕ) → q < length (list_to (ends_of n tails heads capacities) i (length capacities)) → touches (ends_of n tails heads capacities) i (at_place (list_to (ends_of n tails heads capacities) i (length capacities)) q) ≡ true
-    touch q h = (list_touches (ends_of n tails heads capacities) i (stands_member (list_to (ends_of n tails heads capacities) i (length capacities)) q h)).1
+    touch : (q : ℕ) → q < length (list_to (table_of n s u tails heads capacities) i (length capacities)) → touches (table_of n s u tails heads capacities) i (at_place (list_to (table_of n s u tails heads capacities) i (length capacities)) q) ≡ true
+    touch q h = (list_touches (table_of n s u tails heads capacities) i (stands_member (list_to (table_of n s u tails heads capacities) i (length capacities)) q h)).1

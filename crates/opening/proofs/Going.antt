@@ -35,7 +35,7 @@ module _ (t : Table) (ok : Accepted t) (minimums flow : List ℕ) (zeros : minim
       (λ k. ap (λ row. at_place row k) zeros ∙ zero_at (arcs t) k)
 
   -- What `go_on` asks.
-  pub ready_rows : length flow ≡ arcs t → Flow (network_of t) (at_place flow) → Ready t.nodes t.source t.sink t.tails t.heads t.capacities minimums flow
+  pub ready_rows : length flow ≡ arcs t → Flow (network_of t) (at_place flow) → Ready (record { table = t; minimums = minimums }) flow
   ready_rows long valid =
       record {
         rows = record { arcs = rows_wide ok.rows; minimums_long = ap length zeros ∙ length-replicate (arcs t) 0; flow_long = omega arith };

@@ -184,17 +184,7 @@ fn go_on_rows(
         × (work_need bounded.now.table.nodes (length bounded.now.table.capacities.now) ≤ length work.old) }
     ensures { left result flow.new side.new work.new ≡ went_on (table_in bounded.now.table) stamp flow.old side.old work.old }
 {
-    augment::go_on(
-        bounded.table.nodes,
-        bounded.table.source,
-        bounded.table.sink,
-        bounded.table.tails,
-        bounded.table.heads,
-        bounded.table.capacities,
-        bounded.minimums,
-        flow,
-        lists,
-    );
+    augment::go_on(bounded, flow, lists);
     let value = start::value(&bounded.table, flow);
     reach::mark(&bounded.table, flow, lists, side);
     rows::clear(

@@ -9,12 +9,13 @@ use lib.IntN.{ℤ}
 use mir.Syntax.{w64}
 use mir.Val.{to_z, of_z}
 use lib.ListN.{length}
+use Rattle.std.specs.Prelude.{Option, Some, None}
 use Rattle.rows.specs.Row.{cleared}
 use Rattle.table.specs.Table.{Table, arcs}
 use Rattle.table.specs.Checks.{is_fine, no_refusal, refused, Verdict}
 use Rattle.table.specs.Accepted.{Accepted}
 use Rattle.table.specs.declared.Name.{Name}
-use Rattle.table.specs.declared.Name.TheVariants.{Impossible as ImpossibleName}
+use Rattle.table.specs.declared.Name.TheVariants.{Impossible}
 use Rattle.run.specs.Phase.{run, value}
 use Rattle.run.proofs.Answers.{run_value}
 use Rattle.arcs.specs.Work.{work_need}
@@ -23,8 +24,6 @@ use Rattle.solver.specs.declared.Answer.{Answer}
 use Rattle.solver.proofs.Solved.{room_roomy, refused_solving, fine_solving}
 use Rattle.minimums.specs.BoundedTable.{BoundedTable}
 use Rattle.bounded.specs.Solving.{Solvable, Leaves}
-use Rattle.bounded.specs.declared.Bounded.{Bounded}
-use Rattle.bounded.specs.declared.Bounded.TheVariants.{Impossible, Value}
 use Rattle.bounded.proofs.Signed.{reads, reads_back}
 use Rattle.planner.specs.Solving.{SignedLeft, signed_left, with_sign, left_with_sign, signed_answer, signed_refusal, Bounding, impossible, found, BoundingAs, bounded_verdict, FineAs, SolvesAs, Solves}
 use Rattle.minimums.specs.Checks.{all_zero, plain}
@@ -62,8 +61,8 @@ with_sign_is a h = ap (valued a) (reads a.value h)
 
 module _ (b : BoundedTable) (stamp : ℕ) (flow side work : List ℕ) where
   -- No flow keeps all arcs between their numbers.
-  pub bounding_none : {flow' side' : List ℕ} {r : Signed} {a : Bounded} → Leaves b flow side a flow' side' → a ≡ Impossible
-      → r ≡ signed_refusal ImpossibleName 0 → Bounding b stamp flow side work (signed_left r flow' side' work)
+  pub bounding_none : {flow' side' : List ℕ} {r : Signed} {a : Option ℤ} → Leaves b flow side a flow' side' → a ≡ None
+      → r ≡ signed_refusal Impossible 0 → Bounding b stamp flow side work (signed_left r flow' side' work)
   bounding_none {flow'} {side'} {r} {a} left is e =
       let (no_flow, same) = subst (λ x. Leaves b flow side x flow' side') is left in
       subst (Bounding b stamp flow side work)
@@ -71,7 +70,7 @@ module _ (b : BoundedTable) (stamp : ℕ) (flow side work : List ℕ) where
       (impossible no_flow)
 
   -- One of greatest value was found: the value as it is read back from its 64 bits.
-  pub bounding_found : {flow' side' work' : List ℕ} {r : Signed} {a : Bounded} {v : ℤ} → Leaves b flow side a flow' side' → a ≡ Value v
+  pub bounding_found : {flow' side' work' : List ℕ} {r : Signed} {a : Option ℤ} {v : ℤ} → Leaves b flow side a flow' side' → a ≡ Some v
       → r ≡ signed_answer 0 0 stamp (to_z w64 (of_z w64 v)) → work' ≡ cleared (work_need b.table.nodes (arcs b.table)) work
       → Bounding b stamp flow side work (signed_left r flow' side' work')
   bounding_found {flow'} {side'} {work'} {r} {a} {v} left is e w =

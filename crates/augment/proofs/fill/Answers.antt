@@ -1,6 +1,5 @@
 -- `fill` meets its contract. The loop's invariant: so many arcs are filled as were passed, and what is left fits.
 use native.Mathlib.Omega.{arith}
-use lib.ListN.{get_or}
 use Rattle.augment.proofs.Pouring.{poured_moves, poured_head, poured_on, poured_done}
 use Rattle.augment.proofs.fill.Goals as goal
 
@@ -10,8 +9,7 @@ move_at-requires c =
     let on = c.loop-place-test.true in
     let here = (poured_head _ _ _ _ _ _ _ _ so on).0 in record {
       k_in_bounds = (omega (arith, here, c.requires.rows.arcs.capacities_long), omega (arith, here, c.requires.rows.flow_long, so.long));
-      d_bound = poured_moves _ _ _ _ _ _ _ _ so on 4294967296 c.requires.d_nonzero
-          (omega (arith, c.type_inv.capacities (get_or c.args.chain.now c.loop-place.place-index 0)));
+      d_bound = poured_moves _ _ _ _ _ _ _ _ so on c.requires.d_nonzero;
     }
 
 pub far_at-i-requires : goal.far_at-i-requires

@@ -5,8 +5,8 @@ use Rattle.augment.proofs.Extending.{walk_decides, far_finds}
 use Rattle.augment.proofs.Walking.{measured_known}
 use Rattle.augment.proofs.find.Goals as goal
 
-pub returns-then-n-dist : goal.returns-then-n-dist
-returns-then-n-dist c = far_finds c.requires.ready c.attempt-least.ensures.known c.if-n-dist.true
+pub returns-then-bounded-dist : goal.returns-then-bounded-dist
+returns-then-bounded-dist c = far_finds c.requires.ready c.attempt-least.ensures.known c.if-bounded-dist.true
 
 pub walk-walked-requires-clause-known : goal.walk-walked-requires-clause-known
 walk-walked-requires-clause-known c =

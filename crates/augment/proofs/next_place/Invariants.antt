@@ -4,8 +4,9 @@ use mathlib.Core.Path.{◌≡◌}
 use mathlib.Core.Bool.{false}
 use Rattle.rows.specs.Row.{at_place}
 use Rattle.shortest.specs.Distance.{leads_to}
-use Rattle.shortest.specs.Rows.{row_ways}
+use Rattle.shortest.specs.Rows.{bounded_ways}
+use Rattle.minimums.specs.BoundedTable.{bounded_in}
 use Rattle.augment.proofs.next_place.Given as goal
 
 abbrev pub invariant-loop-place : goal.invariant-loop-place
-invariant-loop-place l = ((q : ℕ) → q < l.place-index → leads_to (row_ways l.tails l.heads l.capacities l.minimums l.flow) l.dist l.d l.i (at_place l.list q) ≡ false)
+invariant-loop-place l = ((q : ℕ) → q < l.place-index → leads_to (bounded_ways (bounded_in l.bounded) l.flow) l.dist l.d l.i (at_place l.list q) ≡ false)

@@ -11,12 +11,12 @@ pub returns-then-not-feasible : goal.returns-then-not-feasible
 returns-then-not-feasible c =
     (c.feasible.ensures.none c.if-not-feasible.true, (refl, refl))
 
-pub slice_bounds-greatest-end : goal.slice_bounds-greatest-end
-slice_bounds-greatest-end c =
+pub slice_bounds-spare-end : goal.slice_bounds-spare-end
+slice_bounds-spare-end c =
     room_for c.join.ensures
 
-pub greatest-value-requires : goal.greatest-value-requires
-greatest-value-requires c = record {
+pub greatest-requires : goal.greatest-requires
+greatest-requires c = record {
   solvable = c.requires.solvable;
   above = above_is c.join.ensures
       (c.feasible.auto.more ∙ ap length c.requires.own_rows.more_empty ∙ length-replicate _ 0)
@@ -26,5 +26,5 @@ greatest-value-requires c = record {
 
 pub returns : goal.returns
 returns c =
-    let best = c.greatest-value.ensures.1 in
-    (c.greatest-value.ensures.0, subst (GreatestBounded _ _ _) (sym (read_value best.range)) best)
+    let best = c.greatest.ensures.1 in
+    (c.greatest.ensures.0, subst (GreatestBounded _ _ _) (sym (read_value best.range)) best)

@@ -8,6 +8,6 @@ loop-k-init c = (written_none _ _, written_none _ _)
 
 pub loop-k-preserved : goal.loop-k-preserved
 loop-k-preserved c = (
-  written_next _ _ _ _ c.loop-k.invariant.0 _ (omega arith) c.ends_at-ends.ensures.0,
-  written_next _ _ _ _ c.loop-k.invariant.1 _ (omega arith) c.ends_at-ends.ensures.1,
+  written_next _ _ _ _ c.loop-k.invariant.0 _ (omega arith) c.ends_at-ends.ensures.tail,
+  written_next _ _ _ _ c.loop-k.invariant.1 _ (omega arith) c.ends_at-ends.ensures.head,
 )

@@ -6,4 +6,4 @@ use Rattle.joining.proofs.join_ends.Given as goal
 
 abbrev pub invariant-loop-k : goal.invariant-loop-k
 invariant-loop-k l =
-    Written (joined_tail l.n l.s l.t l.tails (length l.tails)) l.initial.from l.from l.k × Written (joined_head l.n l.s l.t l.heads (length l.tails)) l.initial.to l.to l.k
+    Written (joined_tail l.table.nodes l.table.source l.table.sink l.table.tails.now (length l.table.tails.now)) l.initial.from l.from l.k × Written (joined_head l.table.nodes l.table.source l.table.sink l.table.heads.now (length l.table.tails.now)) l.initial.to l.to l.k

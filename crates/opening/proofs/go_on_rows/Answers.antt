@@ -2,7 +2,6 @@
 use Rattle.std.proofs.Common.{◌≡◌, ℕ, ◌≤◌, List, length, arith}
 use Rattle.table.specs.Table.{Table, arcs, network_of, table_in}
 use Rattle.table.specs.Accepted.{Accepted}
-use Rattle.arcs.proofs.Work.{in_work_ends}
 use Rattle.start.specs.Sums.{sum_at}
 use Rattle.shortest.specs.Augment.{settled}
 use Rattle.opening.proofs.Going.{ready_rows, gone_row, last_sums, went_rows}
@@ -14,7 +13,7 @@ go_on-requires c =
     let accepted : Accepted table = c.requires.accepted in
     record {
       ready = ready_rows table accepted c.args.bounded.now.minimums.now c.args.flow.now c.requires.minimums_value c.requires.flow_len.0 c.requires.flow;
-      in_work = in_work_ends c.requires.in_work 0 0;
+      in_work = c.requires.in_work;
     }
 
 pub value-value-requires : goal.value-value-requires
