@@ -18,7 +18,7 @@ fill_work-requires c =
 pub go_on-requires : goal.go_on-requires
 go_on-requires c = record {
   ready = ready c.requires.solvable c.requires.above c.add_minimums.ensures;
-  in_work = in_work_ends (c.fill_work.ensures.listed c.requires.solvable.accepted.rows.arcs.capacities_long) 0 0;
+  in_work = in_work_ends (c.fill_work.ensures.listed c.requires.solvable.accepted.rows.arcs.capacities_long) c.args.bounded.now.table.source c.args.bounded.now.table.sink;
 }
 
 pub take_minimums-requires : goal.take_minimums-requires

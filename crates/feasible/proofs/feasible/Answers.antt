@@ -12,7 +12,7 @@ pub go_on-requires : goal.go_on-requires
 go_on-requires c =
     let ready = table_ready c.requires.accepted_bounded c.requires.joined_table c.requires.none_value.0 c.requires.none_value.1 in record {
       ready = ready;
-      in_work = in_work_ends (c.fill_work.ensures.listed ready.rows.arcs.capacities_long) 0 0;
+      in_work = in_work_ends (c.fill_work.ensures.listed ready.rows.arcs.capacities_long) c.args.joined.now.source c.args.joined.now.sink;
     }
 
 pub all_full-requires : goal.all_full-requires
