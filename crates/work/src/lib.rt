@@ -1,7 +1,7 @@
 // The run over one work row, which is cut into four parts: excess, labels, list starts and list entries.
 #![tactic(auto)]
 
-ghost use Rattle.std.specs.Prelude.{◌≡◌, ℕ, ◌+◌, ◌-◌, ◌^◌, ◌≤◌, ◌<◌, length, set, replicate};
+ghost use Rattle.std.specs.Prelude.{◌≡◌, ◌+◌, ◌-◌, ◌^◌, ◌≤◌, ◌<◌, length, set, replicate};
 ghost use Rattle.rows.specs.Row.{Node, at_node};
 ghost use Rattle.table.specs.Table.{Table, table_in, arcs};
 ghost use Rattle.table.specs.Accepted.{Accepted, ArcRows};

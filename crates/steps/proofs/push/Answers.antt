@@ -3,7 +3,6 @@ use Rattle.run.specs.Rows.{state_of}
 use Rattle.table.specs.Table.{table_in}
 use Rattle.steps.proofs.Moving.{push_sends, push_shifts, pushed}
 use mathlib.Core.List.{[]}
-use lib.ListN.{length}
 use native.Mathlib.Omega.{arith}
 use Rattle.steps.proofs.push.Goals as goal
 

@@ -2,7 +2,6 @@
 use Rattle.rows.specs.Row.{at_place}
 use Rattle.arcs.specs.Residual.{far}
 use Rattle.table.specs.Table.{table_in}
-use mathlib.Core.List.{List}
 use mathlib.Core.Path.{◌≡◌}
 use Prim.Native.Nat.{ℕ, ◌+◌, ◌<◌}
 use Rattle.steps.proofs.put_ends.Given as goal
