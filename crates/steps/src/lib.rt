@@ -1,4 +1,4 @@
-// The parts of a step over bare rows: search, push and relabel.
+// The parts of a step: search, push and relabel.
 #![tactic(auto)]
 
 ghost use Rattle.std.specs.Prelude.{◌≡◌, true, List, ℕ, ◌+◌, ◌-◌, ◌*◌, ◌^◌, ◌≤◌, ◌<◌, length};
