@@ -1,7 +1,7 @@
 // Document 02, CR 12: goes on from a table's maximum flow where one arc opens to a larger capacity.
 #![tactic(auto)]
 
-ghost use Rattle.std.specs.Prelude.{◌≡◌, ℕ, ◌<◌, ◌≤◌, List, length, replicate, slice_set};
+ghost use Rattle.std.specs.Prelude.{◌≡◌, ℕ, ◌<◌, ◌≤◌, length, replicate, slice_set};
 ghost use Rattle.rows.specs.Row.{Node, at_place, at_node};
 ghost use Rattle.network.specs.Network.{Flow};
 ghost use Rattle.minimums.specs.BoundedTable.{bounded_in};

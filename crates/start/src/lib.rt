@@ -1,4 +1,4 @@
-// The start of the run over bare rows, the scale and the value.
+// The start of the run, the scale and the value.
 #![tactic(auto)]
 
 ghost use Rattle.std.specs.Prelude.{◌≡◌, ◌++◌, ◌+◌, ◌^◌, ◌≤◌, ◌<◌, length, drop};

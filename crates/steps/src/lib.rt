@@ -1,9 +1,9 @@
-// The parts of a step over bare rows: search, push and relabel.
+// The parts of a step: search, push and relabel.
 #![tactic(auto)]
 
 ghost use Rattle.std.specs.Prelude.{◌≡◌, true, List, ℕ, ◌+◌, ◌-◌, ◌*◌, ◌^◌, ◌≤◌, ◌<◌, length};
 ghost use Rattle.rows.specs.Row.{Node, at_place, at_node};
-ghost use Rattle.table.specs.Table.{table_of, table_in};
+ghost use Rattle.table.specs.Table.{table_of, table_in, arcs};
 ghost use Rattle.table.specs.Accepted.{ArcEnds, ArcRows};
 ghost use Rattle.arcs.specs.Residual.{far, residual};
 ghost use Rattle.run.specs.Push.{eligible, amount, along, moved};
@@ -33,50 +33,43 @@ pub struct Lowest {
 }
 
 // The end of the arc at place k that is not i: what both ends add up to, less i.
-fn far(tails: &[u32], heads: &[u32], i: u32, k: u32) -> u32
-    requires by_index { (n : ℕ) × ArcEnds n tails.now heads.now }
-    requires k_in_bounds { (k < length tails.now) × (touching tails.now heads.now i k ≡ true) }
-    ensures { (n s t : ℕ) (capacities : List ℕ) → result ≡ far (table_of n s t tails.now heads.now capacities) i k }
+fn far(table: &LentTable, i: u32, k: u32) -> u32
+    requires arc_ends { let table = table_in table.now in ArcEnds table.nodes table.tails table.heads }
+    requires k_in_bounds { let table = table_in table.now in
+        (k < length table.tails) × (touching table.tails table.heads i k ≡ true) }
+    ensures { result ≡ far (table_in table.now) i k }
 {
-    tails[k as usize] + heads[k as usize] - i
+    table.tails[k as usize] + table.heads[k as usize] - i
 }
 
 // What can still go along the arc at place k away from i.
-fn residual(tails: &[u32], capacities: &[u32], flow: &[u32], i: u32, k: u32) -> u32
-    requires k_in_bounds { (k < length tails.now) × (k < length capacities.now) }
-    requires within_capacities { WithinCapacities capacities.now flow.now }
-    ensures { (n s t : ℕ) (heads : List ℕ) → result ≡ residual (table_of n s t tails.now heads capacities.now) flow.now i k }
+fn residual(table: &LentTable, flow: &[u32], i: u32, k: u32) -> u32
+    requires k_in_bounds { let table = table_in table.now in (k < length table.tails) × (k < arcs table) }
+    requires within_capacities { WithinCapacities table.now.capacities.now flow.now }
+    ensures { result ≡ residual (table_in table.now) flow.now i k }
 {
-    if tails[k as usize] == i {
-        capacities[k as usize] - flow[k as usize]
+    if table.tails[k as usize] == i {
+        table.capacities[k as usize] - flow[k as usize]
     } else {
         flow[k as usize]
     }
 }
 
 // Whether the arc at place k, away from i, has a far end, `there`, exactly one lower, which few have, and residual above 0.
-fn eligible(
-    tails: &[u32],
-    capacities: &[u32],
-    flow: &[u32],
-    labels: &[u32],
-    i: u32,
-    k: u32,
-    there: u32,
-) -> bool
-    requires k_in_bounds { (k < length tails.now) × (k < length capacities.now) × WithinCapacities capacities.now flow.now }
+fn eligible(table: &LentTable, flow: &[u32], labels: &[u32], i: u32, k: u32, there: u32) -> bool
+    requires k_in_bounds { let table = table_in table.now in
+        (k < length table.tails) × (k < arcs table) × WithinCapacities table.capacities flow.now }
     requires node { Node (length labels.now) i × Node (length labels.now) there }
-    ensures { (n s t : ℕ) (heads excess : List ℕ) → (let table = table_of n s t tails.now heads capacities.now in
+    ensures { (excess : List ℕ) → (let table = table_in table.now in
         there ≡ far table i k → result ≡ eligible table (state_of flow.now excess labels.now) i k) }
 {
     u64::from(rows::at_node(labels, there)) + 1 == u64::from(rows::at_node(labels, i))
-        && 0 < residual(tails, capacities, flow, i, k)
+        && 0 < residual(table, flow, i, k)
 }
 
 // The first eligible place of node i's list, which has none before position `from`; beside the list stand its far ends.
 pub fn search(
-    tails: &[u32],
-    capacities: &[u32],
+    table: &LentTable,
     flow: &[u32],
     labels: &[u32],
     list: &[u32],
@@ -84,17 +77,18 @@ pub fn search(
     i: u32,
     from: u32,
 ) -> Option<Spot>
-    requires tails_len { (length tails.now ≡ length capacities.now) × WithinCapacities capacities.now flow.now }
-    requires node { Node (length labels.now) i × Beside (length capacities.now) (length labels.now) list.now ends.now }
+    requires tails_len { let table = table_in table.now in
+        (length table.tails ≡ arcs table) × WithinCapacities table.capacities flow.now }
+    requires node { Node (length labels.now) i × Beside (length table.now.capacities.now) (length labels.now) list.now ends.now }
     requires from_in_bounds { (from ≤ length list.now) × (length list.now < 2 ^ 32) }
-    ensures { (n s t : ℕ) (heads excess : List ℕ) → (let table = table_of n s t tails.now heads capacities.now in
+    ensures { (excess : List ℕ) → (let table = table_in table.now in
         let state = state_of flow.now excess labels.now in
         FarEnds table i list.now ends.now → NoneBefore table state i list.now from → SpotIs table state i list.now result) }
 {
     for j in from as usize..list.len() {
         let place = list[j];
         let far = ends[j];
-        if eligible(tails, capacities, flow, labels, i, place, far) {
+        if eligible(table, flow, labels, i, place, far) {
             let position = j as u32;
             return Some(Spot {
                 position,
@@ -108,8 +102,7 @@ pub fn search(
 
 // The label at the far end, `there`, of the arc at place k, where that is below `best`, which few are, and the arc has residual away from i; else `best`.
 fn lesser(
-    tails: &[u32],
-    capacities: &[u32],
+    table: &LentTable,
     flow: &[u32],
     labels: &[u32],
     i: u32,
@@ -117,14 +110,15 @@ fn lesser(
     there: u32,
     best: u32,
 ) -> u32
-    requires k_in_bounds { (k < length tails.now) × (k < length capacities.now) × WithinCapacities capacities.now flow.now }
+    requires k_in_bounds { let table = table_in table.now in
+        (k < length table.tails) × (k < arcs table) × WithinCapacities table.capacities flow.now }
     requires node { Node (length labels.now) there }
-    ensures by_index { (n s t : ℕ) (heads excess : List ℕ) → (let table = table_of n s t tails.now heads capacities.now in
+    ensures by_index { (excess : List ℕ) → (let table = table_in table.now in
         there ≡ far table i k → result ≡ lesser table (state_of flow.now excess labels.now) i k best) }
     ensures upper_bound { result ≤ best }
 {
     let label = rows::at_node(labels, there);
-    if label < best && 0 < residual(tails, capacities, flow, i, k) {
+    if label < best && 0 < residual(table, flow, i, k) {
         label
     } else {
         best
@@ -140,8 +134,7 @@ fn met(label: u32, least: u32, at: u32, j: u32) -> u32
 
 // The least of `best` and the labels at far ends of residual arcs in node i's list, and where it was first met; beside the list stand its far ends.
 fn least_far(
-    tails: &[u32],
-    capacities: &[u32],
+    table: &LentTable,
     flow: &[u32],
     labels: &[u32],
     list: &[u32],
@@ -149,10 +142,11 @@ fn least_far(
     i: u32,
     best: u32,
 ) -> Lowest
-    requires tails_len { (length tails.now ≡ length capacities.now) × WithinCapacities capacities.now flow.now }
-    requires beside { Beside (length capacities.now) (length labels.now) list.now ends.now × (length list.now < 2 ^ 32) }
+    requires tails_len { let table = table_in table.now in
+        (length table.tails ≡ arcs table) × WithinCapacities table.capacities flow.now }
+    requires beside { Beside (length table.now.capacities.now) (length labels.now) list.now ends.now × (length list.now < 2 ^ 32) }
     ensures label_le_best { (result.label ≤ best) × (result.at ≤ length list.now) }
-    ensures by_index { (n s t : ℕ) (heads excess : List ℕ) → (let table = table_of n s t tails.now heads capacities.now in
+    ensures by_index { (excess : List ℕ) → (let table = table_in table.now in
         let state = state_of flow.now excess labels.now in
         FarEnds table i list.now ends.now → (result.label ≡ least_far table state i list.now best)
         × HighBefore table state i list.now result.at (result.label + 1)) }
@@ -160,7 +154,7 @@ fn least_far(
     let mut least = best;
     let mut at = 0;
     for j in 0..list.len() {
-        let label = lesser(tails, capacities, flow, labels, i, list[j], ends[j], least);
+        let label = lesser(table, flow, labels, i, list[j], ends[j], least);
         at = met(label, least, at, j as u32);
         least = label;
     }
@@ -169,24 +163,24 @@ fn least_far(
 
 // Node i's label after a relabel, one more than the least label among far ends of its residual arcs, and the position of the first arc that leads so low.
 pub fn new_label(
-    tails: &[u32],
-    capacities: &[u32],
+    table: &LentTable,
     flow: &[u32],
     labels: &[u32],
     list: &[u32],
     ends: &[u32],
     i: u32,
 ) -> Lowest
-    requires tails_len { (length tails.now ≡ length capacities.now) × WithinCapacities capacities.now flow.now × (length labels.now ≤ 512) }
-    requires beside { Beside (length capacities.now) (length labels.now) list.now ends.now × (length list.now < 2 ^ 32) }
+    requires tails_len { let table = table_in table.now in
+        (length table.tails ≡ arcs table) × WithinCapacities table.capacities flow.now × (length labels.now ≤ 512) }
+    requires beside { Beside (length table.now.capacities.now) (length labels.now) list.now ends.now × (length list.now < 2 ^ 32) }
     ensures at_in_bounds { result.at ≤ length list.now }
-    ensures by_index { (n s t : ℕ) (heads excess : List ℕ) → (let table = table_of n s t tails.now heads capacities.now in
+    ensures by_index { (excess : List ℕ) → (let table = table_in table.now in
         let state = state_of flow.now excess labels.now in
         FarEnds table i list.now ends.now → (result.label ≡ least_far table state i list.now (2 * length labels.now) + 1)
         × HighBefore table state i list.now result.at result.label) }
 {
     let top = 2 * labels.len() as u32;
-    let found = least_far(tails, capacities, flow, labels, list, ends, i, top);
+    let found = least_far(table, flow, labels, list, ends, i, top);
     Lowest {
         label: found.label + 1,
         ..found
@@ -194,30 +188,22 @@ pub fn new_label(
 }
 
 // Puts the far ends of node i's list into a row, from position p on; answers the position behind them.
-pub fn put_ends(
-    tails: &[u32],
-    heads: &[u32],
-    list: &[u32],
-    ends: &mut [u32],
-    p: usize,
-    i: u32,
-) -> usize
-    requires by_index { (n : ℕ) × ArcEnds n tails.now heads.now }
-    requires all_touch { AllTouch (length tails.now) tails.now heads.now i list.now × (p + length list.now ≤ length ends.old) }
+pub fn put_ends(table: &LentTable, list: &[u32], ends: &mut [u32], p: usize, i: u32) -> usize
+    requires arc_ends { let table = table_in table.now in ArcEnds table.nodes table.tails table.heads }
+    requires all_touch { let table = table_in table.now in
+        AllTouch (length table.tails) table.tails table.heads i list.now × (p + length list.now ≤ length ends.old) }
     ensures value { (result ≡ p + length list.now) × ((q : ℕ) → q < p → at_place ends.new q ≡ at_place ends.old q) }
-    ensures by_index_2 { (n s t : ℕ) (capacities : List ℕ) (j : ℕ) → j < length list.now
-        → at_place ends.new (p + j) ≡ far (table_of n s t tails.now heads.now capacities) i (at_place list.now j) }
+    ensures by_index { (j : ℕ) → j < length list.now → at_place ends.new (p + j) ≡ far (table_in table.now) i (at_place list.now j) }
 {
     for (j, &k) in list.iter().enumerate() {
-        ends[p + j] = far(tails, heads, i, k);
+        ends[p + j] = far(table, i, k);
     }
     p + list.len()
 }
 
 // How much a push along place k to its far end j moves: the least of excess, residual and what the far end may still take.
 fn amount(
-    tails: &[u32],
-    capacities: &[u32],
+    table: &LentTable,
     flow: &[u32],
     excess: &[u32],
     delta: u64,
@@ -225,13 +211,14 @@ fn amount(
     k: u32,
     j: u32,
 ) -> u32
-    requires k_in_bounds { (k < length tails.now) × (k < length capacities.now) × WithinCapacities capacities.now flow.now }
+    requires k_in_bounds { let table = table_in table.now in
+        (k < length table.tails) × (k < arcs table) × WithinCapacities table.capacities flow.now }
     requires node { Node (length excess.now) i × Node (length excess.now) j × AtMost delta excess.now }
-    ensures { (n s t : ℕ) (heads label : List ℕ) → (let table = table_of n s t tails.now heads capacities.now in
+    ensures { (label : List ℕ) → (let table = table_in table.now in
         j ≡ far table i k → result ≡ amount table delta (state_of flow.now excess.now label) i k) }
 {
     let held = u64::from(rows::at_node(excess, i));
-    let left = u64::from(residual(tails, capacities, flow, i, k));
+    let left = u64::from(residual(table, flow, i, k));
     let there = u64::from(rows::at_node(excess, j));
     held.min(left.min(delta - there)) as u32
 }
@@ -283,8 +270,8 @@ pub fn push(
     requires at_most { AtMost delta excess.old × (total excess.old < 2 ^ 32) }
     ensures { (label : List ℕ) → Pushed (table_in table.now) delta (state_of flow.old excess.old label) i k flow.new excess.new result }
 {
-    let left = residual(table.tails, table.capacities, flow, i, k);
-    let d = amount(table.tails, table.capacities, flow, excess, delta, i, k, j);
+    let left = residual(table, flow, i, k);
+    let d = amount(table, flow, excess, delta, i, k, j);
     send(table.tails, flow, i, k, d);
     shift(excess, table.source, table.sink, i, j, d);
     d == left

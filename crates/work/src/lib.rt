@@ -1,7 +1,7 @@
 // The run over one work row, which is cut into four parts: excess, labels, list starts and list entries.
 #![tactic(auto)]
 
-ghost use Rattle.std.specs.Prelude.{◌≡◌, ℕ, ◌+◌, ◌-◌, ◌^◌, ◌≤◌, ◌<◌, length, set, replicate};
+ghost use Rattle.std.specs.Prelude.{◌≡◌, ◌+◌, ◌-◌, ◌^◌, ◌≤◌, ◌<◌, length, set, replicate};
 ghost use Rattle.rows.specs.Row.{Node, at_node};
 ghost use Rattle.table.specs.Table.{Table, table_in, arcs};
 ghost use Rattle.table.specs.Accepted.{Accepted, ArcRows};
@@ -102,8 +102,7 @@ fn search_list(table: &LentTable, flow: &[u32], work: &[u32], ends: &[u32], i: u
     let from = at + (nodes + 1);
     let end = at + (at + 1);
     steps::search(
-        table.tails,
-        table.capacities,
+        table,
         flow,
         &work[nodes..at],
         arcs::node_list(work, table.nodes, table.capacities.len(), i),
@@ -123,8 +122,7 @@ fn label_from_list(table: &LentTable, flow: &[u32], work: &[u32], ends: &[u32], 
     let nodes = table.nodes as usize;
     let end = nodes + nodes;
     steps::new_label(
-        table.tails,
-        table.capacities,
+        table,
         flow,
         &work[nodes..end],
         arcs::node_list(work, table.nodes, table.capacities.len(), i),
@@ -393,8 +391,7 @@ fn fill_ends(table: &LentTable, work: &[u32], ends: &mut [u32])
     let mut p = 0;
     for i in 1..=table.nodes {
         p = steps::put_ends(
-            table.tails,
-            table.heads,
+            table,
             arcs::node_list(work, table.nodes, table.capacities.len(), i),
             ends,
             p,

@@ -1,7 +1,7 @@
 -- `mark_all` meets its contract: each marked node is noted or done with, and unmarked nodes twice and the nodes noted fall.
 use mathlib.Core.Path.{◌≡◌, refl, ap, ◌∙◌, subst⁻¹}
 use native.Mathlib.Omega.{arith}
-use lib.ListN.{length, replicate}
+use lib.ListN.{replicate}
 use Rattle.table.specs.Table.{Table, table_in, arcs}
 use Rattle.arcs.specs.Residual.{list, Places}
 use Rattle.arcs.proofs.Members.{list_places}

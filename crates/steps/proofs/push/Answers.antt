@@ -3,7 +3,6 @@ use Rattle.run.specs.Rows.{state_of}
 use Rattle.table.specs.Table.{table_in}
 use Rattle.steps.proofs.Moving.{push_sends, push_shifts, pushed}
 use mathlib.Core.List.{[]}
-use lib.ListN.{length}
 use native.Mathlib.Omega.{arith}
 use Rattle.steps.proofs.push.Goals as goal
 
@@ -14,7 +13,7 @@ send-requires c =
     let sends =
     push_sends table.tails.now table.heads.now table.capacities.now given.flow.now given.excess.now table.source table.sink given.delta given.i given.k
     c.amount-d.result c.requires.arc_rows.0 c.requires.within_capacities.0 c.requires.within_capacities.2
-    (c.amount-d.ensures (length given.excess.now) table.source table.sink table.heads.now [] c.requires.arc_rows.1) in record {
+    (c.amount-d.ensures [] c.requires.arc_rows.1) in record {
       k_in_bounds = (omega (arith, c.requires.within_capacities.2, c.requires.arc_rows.0.capacities_long), omega (arith, c.requires.within_capacities.2, c.requires.within_capacities.0.room));
       d_bound = sends.0;
       d_bound_2 = sends.1;
@@ -27,7 +26,7 @@ shift-requires-clause-d_bound c =
     let fits =
     push_shifts table.tails.now table.heads.now table.capacities.now given.flow.now given.excess.now table.source table.sink given.delta given.i given.k
     c.amount-d.result c.requires.arc_rows.0 c.requires.within_capacities.0 c.requires.within_capacities.2
-    (c.amount-d.ensures (length given.excess.now) table.source table.sink table.heads.now [] c.requires.arc_rows.1) given.j c.requires.arc_rows.1
+    (c.amount-d.ensures [] c.requires.arc_rows.1) given.j c.requires.arc_rows.1
     c.requires.within_capacities.1 c.requires.at_most.1 in
     fits.1.1
 
@@ -38,5 +37,5 @@ returns c label =
     let is = c.requires.arc_rows.1 in
     pushed (table_in table) given.delta (state_of given.flow.now given.excess.now label)
     given.i given.k c.amount-d.result given.j c.residual-left.result c.send.new.flow c.shift.new.excess
-    (c.amount-d.ensures table.nodes table.source table.sink table.heads.now label is) is (c.residual-left.ensures table.nodes table.source table.sink table.heads.now)
+    (c.amount-d.ensures label is) is c.residual-left.ensures
     (c.send.ensures table.nodes table.source table.sink table.heads.now table.capacities.now) (c.shift.ensures table.nodes table.tails.now table.heads.now table.capacities.now)

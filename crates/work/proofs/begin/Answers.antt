@@ -1,5 +1,5 @@
 -- `begin` meets its contract: the flow row, then the excess part, then the labels part.
-use Prim.Native.Nat.{ℕ, ◌-◌, ◌≤◌}
+use Prim.Native.Nat.{◌-◌, ◌≤◌}
 use borrow.Rule.Slice.PartMut.{put_mid}
 use Rattle.table.specs.Table.{table_in}
 use Rattle.arcs.specs.Work.{starts_at}

@@ -1,5 +1,5 @@
 -- `fill_ends` meets its contract. The loop's invariant: the far ends of the lists of nodes 1 to i stand one behind the other, and p is where they end.
-use Prim.Native.Nat.{ℕ, ◌-◌}
+use Prim.Native.Nat.{◌-◌}
 use mathlib.Core.Path.{◌≡◌}
 use Rattle.table.specs.Table.{table_in}
 use Rattle.arcs.specs.Residual.{list}

@@ -1,6 +1,5 @@
 -- `into_sink` meets its contract: it is the value of the table with tails and heads exchanged, from the sink.
 use mathlib.Core.Path.{sym, ◌∙◌}
-use native.Mathlib.Omega.{arith}
 use Rattle.start.proofs.Scaling.{value_is}
 use Rattle.until.proofs.Gains.{exchanged}
 use Rattle.work.proofs.into_sink.Goals as goal

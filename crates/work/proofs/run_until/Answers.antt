@@ -11,7 +11,6 @@ use Rattle.arcs.proofs.Work.{lists_kept, lists_on, in_work_kept}
 use Rattle.work.specs.Held.{state_in}
 use Rattle.work.proofs.Stepping.{same_state}
 use Rattle.work.proofs.Going.{start_sums, ran_until}
-use native.Mathlib.Omega.{arith}
 use mathlib.Core.List.{List}
 use mathlib.Core.Path.{◌≡◌, refl, ap, sym, ◌∙◌}
 use borrow.Author.Rules.{rules}
