@@ -30,9 +30,9 @@ fn leads(dist: &[u32], d: u32, i: u32, tail: u32, head: u32, fore: bool, back: b
 }
 
 // Whether the arc at place k may be walked from node i to a node with the label d.
-fn leads_at(bounded: &LentBounded, flow: &[u32], dist: &[u32], d: u32, i: u32, k: usize) -> bool
-    requires { Rows (bounded_in bounded.now) flow.now × (length dist.now ≡ bounded.now.table.nodes) × (k < length bounded.now.table.capacities.now) }
-    ensures { result ≡ leads_to (bounded_ways (bounded_in bounded.now) flow.now) dist.now d i k }
+fn leads_at(bounded: LentBounded, flow: &[u32], dist: &[u32], d: u32, i: u32, k: usize) -> bool
+    requires { Rows (bounded_in bounded) flow.now × (length dist.now ≡ bounded.table.nodes) × (k < length bounded.table.capacities.now) }
+    ensures { result ≡ leads_to (bounded_ways (bounded_in bounded.entry) flow.now) dist.now d i k }
 {
     let f = flow[k];
     leads(
@@ -48,7 +48,7 @@ fn leads_at(bounded: &LentBounded, flow: &[u32], dist: &[u32], d: u32, i: u32, k
 
 // The same of the place k where none below `from` may: such a place needs no look at its arc.
 fn leads_past(
-    bounded: &LentBounded,
+    bounded: LentBounded,
     flow: &[u32],
     dist: &[u32],
     d: u32,
@@ -56,16 +56,16 @@ fn leads_past(
     from: usize,
     k: usize,
 ) -> bool
-    requires rows { Rows (bounded_in bounded.now) flow.now × (length dist.now ≡ bounded.now.table.nodes) × (k < length bounded.now.table.capacities.now) }
-    requires none_below { NoneBelow (bounded_ways (bounded_in bounded.now) flow.now) dist.now d i from }
-    ensures { result ≡ leads_to (bounded_ways (bounded_in bounded.now) flow.now) dist.now d i k }
+    requires rows { Rows (bounded_in bounded) flow.now × (length dist.now ≡ bounded.table.nodes) × (k < length bounded.table.capacities.now) }
+    requires none_below { NoneBelow (bounded_ways (bounded_in bounded) flow.now) dist.now d i from }
+    ensures { result ≡ leads_to (bounded_ways (bounded_in bounded.entry) flow.now) dist.now d i k }
 {
     from <= k && leads_at(bounded, flow, dist, d, i, k)
 }
 
 // The lowest place that leads from node i to a node with the label d, by node i's list, or the number of places; none below `from` does.
 fn next_place(
-    bounded: &LentBounded,
+    bounded: LentBounded,
     flow: &[u32],
     list: &[u32],
     dist: &[u32],
@@ -73,10 +73,10 @@ fn next_place(
     i: u32,
     from: usize,
 ) -> usize
-    requires rows { Rows (bounded_in bounded.now) flow.now × (length dist.now ≡ bounded.now.table.nodes) }
-    requires list_of { ListOf (bounded_ways (bounded_in bounded.now) flow.now) i list.now }
-    requires none_below { NoneBelow (bounded_ways (bounded_in bounded.now) flow.now) dist.now d i from }
-    ensures { result ≡ next (bounded_ways (bounded_in bounded.now) flow.now) dist.now d i }
+    requires rows { Rows (bounded_in bounded) flow.now × (length dist.now ≡ bounded.table.nodes) }
+    requires list_of { ListOf (bounded_ways (bounded_in bounded) flow.now) i list.now }
+    requires none_below { NoneBelow (bounded_ways (bounded_in bounded) flow.now) dist.now d i from }
+    ensures { result ≡ next (bounded_ways (bounded_in bounded.entry) flow.now) dist.now d i }
 {
     for &place in list {
         let k = place as usize;
@@ -134,7 +134,7 @@ fn noted_of(noted: usize, m: usize) -> usize
 // The lowest place that leads from node i to a node with the label d, or the number of places: the one noted for node i where it leads there still,
 // else by node i's list from there on, and then noted with its far end.
 fn leave_by(
-    bounded: &LentBounded,
+    bounded: LentBounded,
     flow: &[u32],
     work: &[u32],
     dist: &[u32],
@@ -143,13 +143,13 @@ fn leave_by(
     lowest: &mut [u32],
     far: &mut [u32],
 ) -> usize
-    requires rows { Rows (bounded_in bounded.now) flow.now }
-    requires in_work { InWork (table_in bounded.now.table) work.now }
-    requires dist_len { (length dist.now ≡ bounded.now.table.nodes) × (length lowest.old ≡ bounded.now.table.nodes) × (length far.old ≡ bounded.now.table.nodes) × Node bounded.now.table.nodes i × (at_node dist.now i ≡ d + 1) }
-    requires noted_2 { Noted (bounded_ways (bounded_in bounded.now) flow.now) bounded.now.table.nodes dist.now lowest.old far.old }
-    ensures place { result ≡ next (bounded_ways (bounded_in bounded.now) flow.now) dist.now d i }
-    ensures noted { Noted (bounded_ways (bounded_in bounded.now) flow.now) bounded.now.table.nodes dist.now lowest.new far.new }
-    ensures far { result < length bounded.now.table.capacities.now → at_node far.new i ≡ other_end (bounded_ways (bounded_in bounded.now) flow.now) i result }
+    requires rows { Rows (bounded_in bounded) flow.now }
+    requires in_work { InWork (table_in bounded.table) work.now }
+    requires dist_len { (length dist.now ≡ bounded.table.nodes) × (length lowest.old ≡ bounded.table.nodes) × (length far.old ≡ bounded.table.nodes) × Node bounded.table.nodes i × (at_node dist.now i ≡ d + 1) }
+    requires noted_2 { Noted (bounded_ways (bounded_in bounded) flow.now) bounded.table.nodes dist.now lowest.old far.old }
+    ensures place { result ≡ next (bounded_ways (bounded_in bounded.entry) flow.now) dist.now d i }
+    ensures noted { Noted (bounded_ways (bounded_in bounded.entry) flow.now) bounded.entry.table.nodes dist.now lowest.new far.new }
+    ensures far { result < length bounded.entry.table.capacities.now → at_node far.new i ≡ other_end (bounded_ways (bounded_in bounded.entry) flow.now) i result }
 {
     let at = (i - 1) as usize;
     let noted = lowest[at] as usize;
@@ -175,7 +175,7 @@ struct Outcome {
 
 // The chain from the source by the labels, at each node by the lowest place that leads one nearer, into the first places of `chain`.
 fn walk(
-    bounded: &LentBounded,
+    bounded: LentBounded,
     flow: &[u32],
     work: &[u32],
     dist: &[u32],
@@ -183,15 +183,15 @@ fn walk(
     far: &mut [u32],
     chain: &mut [u32],
 ) -> Outcome
-    requires ready { Ready (bounded_in bounded.now) flow.now }
-    requires in_work { InWork (table_in bounded.now.table) work.now }
-    requires lowest_len { (length lowest.old ≡ bounded.now.table.nodes) × (length far.old ≡ bounded.now.table.nodes) × (bounded.now.table.nodes ≤ length chain.old) }
-    requires known { Known (bounded_ways (bounded_in bounded.now) flow.now) bounded.now.table.nodes bounded.now.table.sink dist.now lowest.old far.old }
-    ensures walked { let network = bounded_network (bounded_in bounded.now) in
+    requires ready { Ready (bounded_in bounded) flow.now }
+    requires in_work { InWork (table_in bounded.table) work.now }
+    requires lowest_len { (length lowest.old ≡ bounded.table.nodes) × (length far.old ≡ bounded.table.nodes) × (bounded.table.nodes ≤ length chain.old) }
+    requires known { Known (bounded_ways (bounded_in bounded) flow.now) bounded.table.nodes bounded.table.sink dist.now lowest.old far.old }
+    ensures walked { let network = bounded_network (bounded_in bounded.entry) in
         Walked network flow.now dist.now lowest.new far.new chain.new result.least }
-    ensures dead_end { DeadEnd bounded.now.table.nodes dist.now result.least result.end }
+    ensures dead_end { DeadEnd bounded.entry.table.nodes dist.now result.least result.end }
 {
-    let table = &bounded.table;
+    let table = bounded.table;
     let mut i = table.source;
     let mut least = u32::MAX;
     let mut d = dist[(table.source - 1) as usize];
@@ -226,11 +226,11 @@ fn move_at(tails: &[u32], capacities: &[u32], flow: &mut [u32], i: u32, k: usize
 }
 
 // Fills the chain from node s on by d.
-fn fill(bounded: &LentBounded, flow: &mut [u32], chain: &[u32], d: u32)
-    requires rows { Rows (bounded_in bounded.now) flow.old }
-    requires fits { Fits (bounded_network (bounded_in bounded.now)) d bounded.now.table.source chain.now flow.old }
+fn fill(bounded: LentBounded, flow: &mut [u32], chain: &[u32], d: u32)
+    requires rows { Rows (bounded_in bounded) flow.old }
+    requires fits { Fits (bounded_network (bounded_in bounded)) d bounded.table.source chain.now flow.old }
     requires d_nonzero { 0 < d }
-    ensures { flow.new ≡ filled (bounded_network (bounded_in bounded.now)) d bounded.now.table.source chain.now flow.old }
+    ensures { flow.new ≡ filled (bounded_network (bounded_in bounded.entry)) d bounded.entry.table.source chain.now flow.old }
 {
     let mut i = bounded.table.source;
     for &place in chain {
@@ -242,18 +242,18 @@ fn fill(bounded: &LentBounded, flow: &mut [u32], chain: &[u32], d: u32)
 
 // Measures the distances anew, and forgets the places noted for the nodes.
 fn measure_anew(
-    bounded: &LentBounded,
+    bounded: LentBounded,
     flow: &[u32],
     work: &[u32],
     todo: &mut [u32],
     dist: &mut [u32],
     lowest: &mut [u32],
 )
-    requires rows { Rows (bounded_in bounded.now) flow.now }
-    requires in_work { InWork (table_in bounded.now.table) work.now }
-    requires node { Node bounded.now.table.nodes bounded.now.table.sink × (length dist.old ≡ bounded.now.table.nodes) × (bounded.now.table.nodes ≤ length todo.old) }
-    ensures labels { dist.new ≡ distances (bounded_ways (bounded_in bounded.now) flow.now) bounded.now.table.nodes bounded.now.table.sink }
-    ensures none { lowest.new ≡ replicate (length lowest.old) (length bounded.now.table.capacities.now) }
+    requires rows { Rows (bounded_in bounded) flow.now }
+    requires in_work { InWork (table_in bounded.table) work.now }
+    requires node { Node bounded.table.nodes bounded.table.sink × (length dist.old ≡ bounded.table.nodes) × (bounded.table.nodes ≤ length todo.old) }
+    ensures labels { dist.new ≡ distances (bounded_ways (bounded_in bounded.entry) flow.now) bounded.entry.table.nodes bounded.entry.table.sink }
+    ensures none { lowest.new ≡ replicate (length lowest.old) (length bounded.entry.table.capacities.now) }
 {
     measuring::measure(bounded, flow, work, todo, dist);
     measuring::reset(lowest, bounded.table.capacities.len() as u32);
@@ -272,11 +272,11 @@ fn one_above(dist: &[u32], j: u32, may: bool, none: u32) -> u32
 }
 
 // To what node i's label may rise as far as the arc at place k goes, one of node i's: one above its far end's label where it may be walked, else n.
-fn rise_over(bounded: &LentBounded, flow: &[u32], dist: &[u32], i: u32, k: usize) -> u32
-    requires rows { Rows (bounded_in bounded.now) flow.now }
-    requires labelled { Labelled (bounded_ways (bounded_in bounded.now) flow.now) bounded.now.table.nodes dist.now × Node bounded.now.table.nodes i }
-    requires k_in_bounds { (k < length bounded.now.table.capacities.now) × ((get_or bounded.now.table.tails.now k 0 ≡ i) ⊎ (get_or bounded.now.table.heads.now k 0 ≡ i)) }
-    ensures { RiseOver (bounded_ways (bounded_in bounded.now) flow.now) dist.now i k result }
+fn rise_over(bounded: LentBounded, flow: &[u32], dist: &[u32], i: u32, k: usize) -> u32
+    requires rows { Rows (bounded_in bounded) flow.now }
+    requires labelled { Labelled (bounded_ways (bounded_in bounded) flow.now) bounded.table.nodes dist.now × Node bounded.table.nodes i }
+    requires k_in_bounds { (k < length bounded.table.capacities.now) × ((get_or bounded.table.tails.now k 0 ≡ i) ⊎ (get_or bounded.table.heads.now k 0 ≡ i)) }
+    ensures { RiseOver (bounded_ways (bounded_in bounded.entry) flow.now) dist.now i k result }
 {
     let f = flow[k];
     let tail = bounded.table.tails[k];
@@ -293,11 +293,11 @@ fn rise_over(bounded: &LentBounded, flow: &[u32], dist: &[u32], i: u32, k: usize
 }
 
 // To what node i's label may rise, by node i's list: one above the least label of the far ends of its open arcs, at most n.
-fn rise_to(bounded: &LentBounded, flow: &[u32], list: &[u32], dist: &[u32], i: u32) -> u32
-    requires rows { Rows (bounded_in bounded.now) flow.now }
-    requires labelled { Labelled (bounded_ways (bounded_in bounded.now) flow.now) bounded.now.table.nodes dist.now × Node bounded.now.table.nodes i }
-    requires list_of { ListOf (bounded_ways (bounded_in bounded.now) flow.now) i list.now }
-    ensures { Rise (bounded_ways (bounded_in bounded.now) flow.now) bounded.now.table.nodes dist.now i result }
+fn rise_to(bounded: LentBounded, flow: &[u32], list: &[u32], dist: &[u32], i: u32) -> u32
+    requires rows { Rows (bounded_in bounded) flow.now }
+    requires labelled { Labelled (bounded_ways (bounded_in bounded) flow.now) bounded.table.nodes dist.now × Node bounded.table.nodes i }
+    requires list_of { ListOf (bounded_ways (bounded_in bounded) flow.now) i list.now }
+    ensures { Rise (bounded_ways (bounded_in bounded.entry) flow.now) bounded.entry.table.nodes dist.now i result }
 {
     let mut least = bounded.table.nodes;
     for &place in list {
@@ -309,17 +309,17 @@ fn rise_to(bounded: &LentBounded, flow: &[u32], list: &[u32], dist: &[u32], i: u
 
 // Raises node i's label as far as its open arcs let it, and forgets the place noted for it.
 fn relabel(
-    bounded: &LentBounded,
+    bounded: LentBounded,
     flow: &[u32],
     work: &[u32],
     i: u32,
     dist: &mut [u32],
     lowest: &mut [u32],
 )
-    requires rows { Rows (bounded_in bounded.now) flow.now }
-    requires in_work { InWork (table_in bounded.now.table) work.now }
-    requires labelled { Labelled (bounded_ways (bounded_in bounded.now) flow.now) bounded.now.table.nodes dist.old × Node bounded.now.table.nodes i × (length lowest.old ≡ bounded.now.table.nodes) }
-    ensures { Relabelled (bounded_ways (bounded_in bounded.now) flow.now) bounded.now.table.nodes i dist.old lowest.old dist.new lowest.new }
+    requires rows { Rows (bounded_in bounded) flow.now }
+    requires in_work { InWork (table_in bounded.table) work.now }
+    requires labelled { Labelled (bounded_ways (bounded_in bounded) flow.now) bounded.table.nodes dist.old × Node bounded.table.nodes i × (length lowest.old ≡ bounded.table.nodes) }
+    ensures { Relabelled (bounded_ways (bounded_in bounded.entry) flow.now) bounded.entry.table.nodes i dist.old lowest.old dist.new lowest.new }
 {
     let list = arcs::node_list(work, bounded.table.nodes, bounded.table.capacities.len(), i);
     let label = rise_to(bounded, flow, list, dist, i);
@@ -330,7 +330,7 @@ fn relabel(
 
 // Walks once: the least residual of the chain to fill; or 0, and the node where the walk ended is relabelled.
 fn attempt(
-    bounded: &LentBounded,
+    bounded: LentBounded,
     flow: &[u32],
     work: &[u32],
     dist: &mut [u32],
@@ -338,11 +338,11 @@ fn attempt(
     far: &mut [u32],
     chain: &mut [u32],
 ) -> u32
-    requires ready { Ready (bounded_in bounded.now) flow.now }
-    requires in_work { InWork (table_in bounded.now.table) work.now }
-    requires lowest_len { (length lowest.old ≡ bounded.now.table.nodes) × (length far.old ≡ bounded.now.table.nodes) × (bounded.now.table.nodes ≤ length chain.old) }
-    requires known { Known (bounded_ways (bounded_in bounded.now) flow.now) bounded.now.table.nodes bounded.now.table.sink dist.old lowest.old far.old }
-    ensures { let network = bounded_network (bounded_in bounded.now) in
+    requires ready { Ready (bounded_in bounded) flow.now }
+    requires in_work { InWork (table_in bounded.table) work.now }
+    requires lowest_len { (length lowest.old ≡ bounded.table.nodes) × (length far.old ≡ bounded.table.nodes) × (bounded.table.nodes ≤ length chain.old) }
+    requires known { Known (bounded_ways (bounded_in bounded) flow.now) bounded.table.nodes bounded.table.sink dist.old lowest.old far.old }
+    ensures { let network = bounded_network (bounded_in bounded.entry) in
         Attempted network flow.now dist.new lowest.new far.new chain.new result }
 {
     let walked = walk(bounded, flow, work, dist, lowest, far, chain);
@@ -357,7 +357,7 @@ fn attempt(
 // After each walk that does not arrive a label rises: there is none once the source's is n, and after 16 walks all are measured anew. The chain's row serves the
 // measuring before.
 fn find(
-    bounded: &LentBounded,
+    bounded: LentBounded,
     flow: &[u32],
     work: &[u32],
     dist: &mut [u32],
@@ -365,11 +365,11 @@ fn find(
     far: &mut [u32],
     chain: &mut [u32],
 ) -> u32
-    requires ready { Ready (bounded_in bounded.now) flow.now }
-    requires in_work { InWork (table_in bounded.now.table) work.now }
-    requires lowest_len { (length lowest.old ≡ bounded.now.table.nodes) × (length far.old ≡ bounded.now.table.nodes) × (bounded.now.table.nodes ≤ length chain.old) }
-    requires known { Known (bounded_ways (bounded_in bounded.now) flow.now) bounded.now.table.nodes bounded.now.table.sink dist.old lowest.old far.old }
-    ensures { Found (bounded_network (bounded_in bounded.now)) flow.now dist.new lowest.new far.new chain.new result }
+    requires ready { Ready (bounded_in bounded) flow.now }
+    requires in_work { InWork (table_in bounded.table) work.now }
+    requires lowest_len { (length lowest.old ≡ bounded.table.nodes) × (length far.old ≡ bounded.table.nodes) × (bounded.table.nodes ≤ length chain.old) }
+    requires known { Known (bounded_ways (bounded_in bounded) flow.now) bounded.table.nodes bounded.table.sink dist.old lowest.old far.old }
+    ensures { Found (bounded_network (bounded_in bounded.entry)) flow.now dist.new lowest.new far.new chain.new result }
 {
     for _ in 0..16u32 {
         let least = attempt(bounded, flow, work, dist, lowest, far, chain);
@@ -387,7 +387,7 @@ fn find(
 
 // Fills one chain of fewest residual arcs, the first of them by its places, by its least residual; says whether there was one.
 fn extend(
-    bounded: &LentBounded,
+    bounded: LentBounded,
     flow: &mut [u32],
     work: &[u32],
     dist: &mut [u32],
@@ -395,12 +395,12 @@ fn extend(
     far: &mut [u32],
     chain: &mut [u32],
 ) -> bool
-    requires ready { Ready (bounded_in bounded.now) flow.old }
-    requires in_work { InWork (table_in bounded.now.table) work.now }
-    requires lowest_len { (length lowest.old ≡ bounded.now.table.nodes) × (length far.old ≡ bounded.now.table.nodes) × (bounded.now.table.nodes ≤ length chain.old) }
-    requires known_2 { Known (bounded_ways (bounded_in bounded.now) flow.old) bounded.now.table.nodes bounded.now.table.sink dist.old lowest.old far.old }
-    ensures row { Extended (bounded_network (bounded_in bounded.now)) flow.old flow.new result }
-    ensures known { Known (bounded_ways (bounded_in bounded.now) flow.new) bounded.now.table.nodes bounded.now.table.sink dist.new lowest.new far.new }
+    requires ready { Ready (bounded_in bounded) flow.old }
+    requires in_work { InWork (table_in bounded.table) work.now }
+    requires lowest_len { (length lowest.old ≡ bounded.table.nodes) × (length far.old ≡ bounded.table.nodes) × (bounded.table.nodes ≤ length chain.old) }
+    requires known_2 { Known (bounded_ways (bounded_in bounded) flow.old) bounded.table.nodes bounded.table.sink dist.old lowest.old far.old }
+    ensures row { Extended (bounded_network (bounded_in bounded.entry)) flow.old flow.new result }
+    ensures known { Known (bounded_ways (bounded_in bounded.entry) flow.new) bounded.entry.table.nodes bounded.entry.table.sink dist.new lowest.new far.new }
 {
     let least = find(bounded, flow, work, dist, lowest, far, chain);
     if least == 0 {
@@ -413,7 +413,7 @@ fn extend(
 
 // Fills chains until the sink can't be reached, with a row of n labels, rows for a place and its far end at each node, and one for a chain.
 fn go_on_with(
-    bounded: &LentBounded,
+    bounded: LentBounded,
     flow: &mut [u32],
     work: &[u32],
     dist: &mut [u32],
@@ -421,10 +421,10 @@ fn go_on_with(
     far: &mut [u32],
     chain: &mut [u32],
 )
-    requires ready { Ready (bounded_in bounded.now) flow.old }
-    requires in_work { InWork (table_in bounded.now.table) work.now }
-    requires dist_len { (length dist.old ≡ bounded.now.table.nodes) × (length lowest.old ≡ bounded.now.table.nodes) × (length far.old ≡ bounded.now.table.nodes) × (bounded.now.table.nodes ≤ length chain.old) }
-    ensures { flow.new ≡ settled (bounded_network (bounded_in bounded.now)) flow.old }
+    requires ready { Ready (bounded_in bounded) flow.old }
+    requires in_work { InWork (table_in bounded.table) work.now }
+    requires dist_len { (length dist.old ≡ bounded.table.nodes) × (length lowest.old ≡ bounded.table.nodes) × (length far.old ≡ bounded.table.nodes) × (bounded.table.nodes ≤ length chain.old) }
+    ensures { flow.new ≡ settled (bounded_network (bounded_in bounded.entry)) flow.old }
 {
     measure_anew(bounded, flow, work, chain, dist, lowest);
     while extend(bounded, flow, work, dist, lowest, far, chain) {}
@@ -442,7 +442,7 @@ pub fn go_on(bounded: &LentBounded, flow: &mut [u32], work: &[u32])
     let mut chain = [0u32; 514];
     let nodes = bounded.table.nodes as usize;
     go_on_with(
-        bounded,
+        *bounded,
         flow,
         work,
         &mut dist[..nodes],

@@ -30,11 +30,11 @@ struct Ends {
 
 // The ends of the joined network's arc at place k: those of one of the table's arcs, the new source and a node, a node and the new sink, or source and sink one way or the other.
 #[tactic(auto, unfolding(crate::specs::Joining::in_block))]
-fn ends_at(table: &LentTable, k: usize) -> Ends
-    requires arc_ends { ArcEnds table.now.nodes table.now.tails.now table.now.heads.now }
-    requires k_bound { k < joined_arcs table.now.nodes (length table.now.tails.now) }
-    ensures tail { let t = table_in table.now in result.tail ≡ joined_tail t.nodes t.source t.sink t.tails (length t.tails) k }
-    ensures head { let t = table_in table.now in result.head ≡ joined_head t.nodes t.source t.sink t.heads (length t.tails) k }
+fn ends_at(table: LentTable, k: usize) -> Ends
+    requires arc_ends { ArcEnds table.nodes table.tails.now table.heads.now }
+    requires k_bound { k < joined_arcs table.nodes (length table.tails.now) }
+    ensures tail { let t = table_in table.entry in result.tail ≡ joined_tail t.nodes t.source t.sink t.tails (length t.tails) k }
+    ensures head { let t = table_in table.entry in result.head ≡ joined_head t.nodes t.source t.sink t.heads (length t.tails) k }
 {
     let m = table.tails.len();
     let nodes = table.nodes as usize;
@@ -142,11 +142,11 @@ fn join_capacities(bounded: &LentBounded, row: &mut [u32])
 }
 
 // The tails and heads of the joined network.
-fn join_ends(table: &LentTable, from: &mut [u32], to: &mut [u32])
-    requires arc_ends { ArcEnds table.now.nodes table.now.tails.now table.now.heads.now }
-    requires from_len { (length from.old ≡ joined_arcs table.now.nodes (length table.now.tails.now)) × (length to.old ≡ joined_arcs table.now.nodes (length table.now.tails.now)) }
-    ensures tails { let t = table_in table.now in from.new ≡ by_place (joined_tail t.nodes t.source t.sink t.tails (length t.tails)) (joined_arcs t.nodes (length t.tails)) }
-    ensures heads { let t = table_in table.now in to.new ≡ by_place (joined_head t.nodes t.source t.sink t.heads (length t.tails)) (joined_arcs t.nodes (length t.tails)) }
+fn join_ends(table: LentTable, from: &mut [u32], to: &mut [u32])
+    requires arc_ends { ArcEnds table.nodes table.tails.now table.heads.now }
+    requires from_len { (length from.old ≡ joined_arcs table.nodes (length table.tails.now)) × (length to.old ≡ joined_arcs table.nodes (length table.tails.now)) }
+    ensures tails { let t = table_in table.entry in from.new ≡ by_place (joined_tail t.nodes t.source t.sink t.tails (length t.tails)) (joined_arcs t.nodes (length t.tails)) }
+    ensures heads { let t = table_in table.entry in to.new ≡ by_place (joined_head t.nodes t.source t.sink t.heads (length t.tails)) (joined_arcs t.nodes (length t.tails)) }
 {
     for k in 0..from.len() {
         let ends = ends_at(table, k);
@@ -162,6 +162,6 @@ pub fn join(bounded: &LentBounded, from: &mut [u32], to: &mut [u32], limits: &mu
     requires limits_len { length limits.old ≡ joined_arcs bounded.now.table.nodes (length bounded.now.table.capacities.now) }
     ensures { JoinedRows (bounded_in bounded.now) from.new to.new limits.new }
 {
-    join_ends(&bounded.table, from, to);
+    join_ends(bounded.table, from, to);
     join_capacities(bounded, limits);
 }

@@ -30,7 +30,7 @@ fn give(may: bool, i: u32, d: u32, none: u32, noted: &mut Noted, dist: &mut [u32
 
 // Looks at the arc at place k, which touches node j: its other end gets the distance d where the arc may be walked from there to j.
 fn look(
-    bounded: &LentBounded,
+    bounded: LentBounded,
     flow: &[u32],
     j: u32,
     k: u32,
@@ -38,10 +38,10 @@ fn look(
     noted: &mut Noted,
     dist: &mut [u32],
 )
-    requires rows { Rows (bounded_in bounded.now) flow.now × (length dist.old ≡ bounded.now.table.nodes) × (k < length bounded.now.table.capacities.now) }
-    requires fact { Open bounded.now.table.nodes d (front_of dist.old noted.old) }
-    ensures { let ways = bounded_ways (bounded_in bounded.now) flow.now in
-        front_of dist.new noted.new ≡ give_of bounded.now.table.nodes d (may_into ways j k) (other_end ways j k) (front_of dist.old noted.old) }
+    requires rows { Rows (bounded_in bounded) flow.now × (length dist.old ≡ bounded.table.nodes) × (k < length bounded.table.capacities.now) }
+    requires fact { Open bounded.table.nodes d (front_of dist.old noted.old) }
+    ensures { let ways = bounded_ways (bounded_in bounded.entry) flow.now in
+        front_of dist.new noted.new ≡ give_of bounded.entry.table.nodes d (may_into ways j k) (other_end ways j k) (front_of dist.old noted.old) }
 {
     let at = k as usize;
     let f = flow[at];
@@ -69,7 +69,7 @@ fn look(
 
 // Looks at every arc of node j's list.
 fn visit(
-    bounded: &LentBounded,
+    bounded: LentBounded,
     flow: &[u32],
     list: &[u32],
     j: u32,
@@ -77,10 +77,10 @@ fn visit(
     noted: &mut Noted,
     dist: &mut [u32],
 )
-    requires rows { Rows (bounded_in bounded.now) flow.now × (length dist.old ≡ bounded.now.table.nodes) }
-    requires places { Places (length bounded.now.table.capacities.now) list.now × Open bounded.now.table.nodes d (front_of dist.old noted.old) }
-    ensures { let ways = bounded_ways (bounded_in bounded.now) flow.now in
-        front_of dist.new noted.new ≡ look_to ways bounded.now.table.nodes d j list.now (length list.now) (front_of dist.old noted.old) }
+    requires rows { Rows (bounded_in bounded) flow.now × (length dist.old ≡ bounded.table.nodes) }
+    requires places { Places (length bounded.table.capacities.now) list.now × Open bounded.table.nodes d (front_of dist.old noted.old) }
+    ensures { let ways = bounded_ways (bounded_in bounded.entry) flow.now in
+        front_of dist.new noted.new ≡ look_to ways bounded.entry.table.nodes d j list.now (length list.now) (front_of dist.old noted.old) }
 {
     for k in list {
         look(bounded, flow, j, *k, d, noted, dist);
@@ -95,17 +95,11 @@ pub fn reset(dist: &mut [u32], none: u32)
 }
 
 // The distance of every node to node t over residual arcs, or their number where t is not reached. A list of nodes still to be visited is kept, the nearer ones first, and each one's arcs are looked at once: O(n + m). The nodes' lists stand in the work row.
-pub fn measure(
-    bounded: &LentBounded,
-    flow: &[u32],
-    work: &[u32],
-    todo: &mut [u32],
-    dist: &mut [u32],
-)
-    requires rows { Rows (bounded_in bounded.now) flow.now }
-    requires in_work { InWork (table_in bounded.now.table) work.now }
-    requires node { Node bounded.now.table.nodes bounded.now.table.sink × (length dist.old ≡ bounded.now.table.nodes) × (bounded.now.table.nodes ≤ length todo.old) }
-    ensures { dist.new ≡ distances (bounded_ways (bounded_in bounded.now) flow.now) bounded.now.table.nodes bounded.now.table.sink }
+pub fn measure(bounded: LentBounded, flow: &[u32], work: &[u32], todo: &mut [u32], dist: &mut [u32])
+    requires rows { Rows (bounded_in bounded) flow.now }
+    requires in_work { InWork (table_in bounded.table) work.now }
+    requires node { Node bounded.table.nodes bounded.table.sink × (length dist.old ≡ bounded.table.nodes) × (bounded.table.nodes ≤ length todo.old) }
+    ensures { dist.new ≡ distances (bounded_ways (bounded_in bounded.entry) flow.now) bounded.entry.table.nodes bounded.entry.table.sink }
 {
     reset(dist, bounded.table.nodes);
     dist[(bounded.table.sink - 1) as usize] = 0;

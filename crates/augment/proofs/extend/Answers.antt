@@ -15,7 +15,7 @@ fill-requires-clause-fits c =
 
 pub returns : goal.returns
 returns c =
-    let room : c.args.bounded.now.table.nodes ≤ length c.find-least.new.chain = omega (arith, c.find-least.auto.chain, c.requires.lowest_len.2) in
+    let room : c.args.bounded.table.nodes ≤ length c.find-least.new.chain = omega (arith, c.find-least.auto.chain, c.requires.lowest_len.2) in
     let some : 0 < c.find-least.result = let ne = c.if-least-eq0.false in omega arith in
     let filled =
     part_filled c.requires.ready (extend_goes c.requires.ready c.find-least.ensures some) (extend_chain c.requires.ready c.find-least.ensures some) (extend_least c.requires.ready c.find-least.ensures some) c.fill.ensures in record {

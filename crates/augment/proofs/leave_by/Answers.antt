@@ -17,13 +17,13 @@ returns-then-leads_at-clause-place c =
 pub next_place-k-requires-clause-list_of : goal.next_place-k-requires-clause-list_of
 next_place-k-requires-clause-list_of c =
     let given = c.args in
-    let ways : Ways = bounded_ways (bounded_in given.bounded.now) given.flow.now in
-    subst (ListOf ways given.i) (sym (c.node_list-list.ensures (table_in given.bounded.now.table) c.requires.in_work refl refl)) (listed c.requires.rows given.i)
+    let ways : Ways = bounded_ways (bounded_in given.bounded) given.flow.now in
+    subst (ListOf ways given.i) (sym (c.node_list-list.ensures (table_in given.bounded.table) c.requires.in_work refl refl)) (listed c.requires.rows given.i)
 
 pub overflow_cast-lowest : goal.overflow_cast-lowest
 overflow_cast-lowest c =
     let given = c.args in
-    let ways : Ways = bounded_ways (bounded_in given.bounded.now) given.flow.now in
+    let ways : Ways = bounded_ways (bounded_in given.bounded) given.flow.now in
     omega (arith, c.next_place-k.ensures, next_most ways given.dist.now given.d given.i, c.requires.rows.arcs.capacities_long, c.requires.rows.arcs.ends.few_arcs)
 
 pub returns-then-k-bounded-clause-noted : goal.returns-then-k-bounded-clause-noted

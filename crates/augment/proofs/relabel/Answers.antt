@@ -10,6 +10,6 @@ use Rattle.augment.proofs.relabel.Goals as goal
 pub rise_to-label-requires-clause-list_of : goal.rise_to-label-requires-clause-list_of
 rise_to-label-requires-clause-list_of c =
     let given = c.args in
-    let ends = table_in given.bounded.now.table in
-    let ways = bounded_ways (bounded_in given.bounded.now) given.flow.now in
+    let ends = table_in given.bounded.table in
+    let ways = bounded_ways (bounded_in given.bounded) given.flow.now in
     subst (ListOf ways given.i) (sym (c.node_list-list.ensures ends c.requires.in_work refl refl)) (listed c.requires.rows given.i)

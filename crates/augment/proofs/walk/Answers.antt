@@ -22,7 +22,7 @@ loop-d-preserved c =
     let here = c.if-table-k.false in (
       walking_turn (rows_ends c.requires.ready.rows) so.invariant.0 c.loop-d-test.true c.leave_by-k.ensures.place
           (omega (arith, c.requires.lowest_len.2, (source_label c.requires.ready c.requires.known.labels).1)) here c.leave_by-k.auto.lowest c.leave_by-k.auto.far c.leave_by-k.ensures.noted
-          (c.residual_at.ensures.residual ∙ residual_picked (bounded_network (bounded_in given.bounded.now)) given.flow.now 0 so.i c.leave_by-k.result)
+          (c.residual_at.ensures.residual ∙ residual_picked (bounded_network (bounded_in given.bounded)) given.flow.now 0 so.i c.leave_by-k.result)
           c.min-least.ensures (sym (node_at _ so.i so.invariant.0.node.0) ∙ c.leave_by-k.ensures.far here),
       λ _. c.residual_at.ensures.fits,
     )
