@@ -15,10 +15,10 @@ use Rattle.table.specs.Ascii.{bytes}
 use Rattle.table.specs.Table.{arcs}
 use Rattle.minimums.specs.BoundedTable.{BoundedTable}
 use Rattle.planner.proofs.Demands.{solves_well}
-use Rattle.text.specs.declared.Given.{Given}
-use Rattle.text.specs.declared.Given.TheVariants.{Read, Refusal}
+use Rattle.text.specs.Lines.{Given}
+use Rattle.std.specs.Prelude.{Ok, Err}
 use Rattle.scan.specs.Parts.{lines}
-use Rattle.text.specs.Reading.{table_in, given_by}
+use Rattle.text.specs.Reading.{text_table, given_by}
 use Rattle.text.proofs.Accepting.{read_accepts}
 use Rattle.report.specs.declared.Summary.{Summary}
 use Rattle.pen.specs.Printed.{further, spaced}
@@ -114,8 +114,8 @@ table_length b ok (impossible none) = refused_length Impossible 0
 
 -- What was read, or refused.
 answer_length : (text : List ℕ) (a : Given) → given_by text 4096 4096 4096 4096 ≡ a → (printed : List ℕ) → AnswerText text a printed → length printed ≤ 35061
-answer_length text (Read n m s t) e printed may = table_length (table_in (lines text) n s t) (read_accepts text 4096 4096 4096 4096 e).passes may
-answer_length text (Refusal name place) e printed may = rw may (refused_length name place)
+answer_length text (Ok h) e printed may = table_length (text_table (lines text) h.nodes h.source h.sink) (read_accepts text 4096 4096 4096 4096 e).passes may
+answer_length text (Err why) e printed may = rw may (refused_length why.name why.place)
 
 -- By whether the text is too long.
 by_length : (long : Bool) (text printed : List ℕ) → DeskAs long text printed → length printed ≤ 35061

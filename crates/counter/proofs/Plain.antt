@@ -13,9 +13,9 @@ use Rattle.solver.specs.Solving.{solved}
 use Rattle.solver.proofs.Solved.{solved_flows, solved_marks}
 use Rattle.table.specs.Table.{arcs}
 use Rattle.scan.specs.Parts.{lines}
-use Rattle.text.specs.declared.Given.{Given}
-use Rattle.text.specs.declared.Given.TheVariants.{Read, Refusal}
-use Rattle.text.specs.Reading.{table_in, given_by}
+use Rattle.text.specs.Lines.{Given}
+use Rattle.std.specs.Prelude.{Ok, Err}
+use Rattle.text.specs.Reading.{text_table, given_by}
 use Rattle.text.proofs.Accepting.{read_accepts}
 use Rattle.planner.specs.Solving.{left_with_sign, SolvesAs}
 use Rattle.planner.specs.declared.Signed.{Signed}
@@ -51,11 +51,11 @@ plain_text_lem b ok all (of_none none) = absurd (none _ (plain_greatest b (table
 
 -- Two texts printed by one answer of the reader,
 same_answer : (text : List ℕ) (a : Given) → given_by text 4096 4096 4096 4096 ≡ a → PlainAs text a → (x y : List ℕ) → AnswerText text a x → AnswerText text a y → x ≡ y
-same_answer text (Read n m s t) e all x y p q =
-    let b = table_in (lines text) n s t in
+same_answer text (Ok h) e all x y p q =
+    let b = text_table (lines text) h.nodes h.source h.sink in
     let ok = (read_accepts text 4096 4096 4096 4096 e).passes in
     plain_text_lem b ok all p ∙ sym (plain_text_lem b ok all q)
-same_answer text (Refusal name place) e all x y p q = p ∙ sym q
+same_answer text (Err why) e all x y p q = p ∙ sym q
 
 -- by its length,
 same_as : (long : Bool) (text : List ℕ) → PlainAs text (given_by text 4096 4096 4096 4096) → (x y : List ℕ) → DeskAs long text x → DeskAs long text y → x ≡ y
@@ -89,8 +89,8 @@ lines_table b (of_none never) (of_none too) = equal
 
 -- so is what may be printed by one answer of the reader,
 lines_answer : (text : List ℕ) (a : Given) (x y : List ℕ) → AnswerText text a x → AnswerText text a y → SameLines x y
-lines_answer text (Read n m s t) x y p q = lines_table (table_in (lines text) n s t) p q
-lines_answer text (Refusal name place) x y p q = subst (SameLines x) (p ∙ sym q) equal
+lines_answer text (Ok h) x y p q = lines_table (text_table (lines text) h.nodes h.source h.sink) p q
+lines_answer text (Err why) x y p q = subst (SameLines x) (p ∙ sym q) equal
 
 -- and for one text.
 pub lines_desk : (text x y : List ℕ) → DeskText text x → DeskText text y → SameLines x y

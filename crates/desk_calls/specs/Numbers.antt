@@ -1,6 +1,6 @@
 -- What reading a text returns to C: document 01's numbers of what the text gives.
 use Rattle.std.specs.Prelude.{ℕ, ◌≡◌, List}
-use Rattle.text.specs.declared.Given.{Given}
+use Rattle.text.specs.Lines.{Given}
 use Rattle.text.specs.Reading.{Values, values_of, Reads}
 use Rattle.desk_calls.specs.declared.Text.{Text}
 

@@ -6,11 +6,12 @@ ghost use Rattle.text.specs.Reading.{values_of};
 ghost use Rattle.counter.specs.Desk.{Served};
 ghost use Rattle.desk_calls.specs.Numbers.{text_of, ReadsAs};
 
-use text::Given;
+use table::Refusal;
+use text::Header;
 
 // What reading a text returns: a refusal's number and place, or 0 with n, m, s and t.
 #[repr(C)]
-#[derive(Clone, Copy)]
+#[derive(Clone, Copy, Debug, PartialEq, Eq)]
 pub struct Text {
     pub refusal: u32,
     pub place: u32,
@@ -21,26 +22,29 @@ pub struct Text {
 }
 
 // What a text gives, in numbers.
-fn in_numbers(given: Given) -> Text
-    ensures { result ≡ text_of (values_of given) }
-{
-    match given {
-        Given::Refusal(name, place) => Text {
-            refusal: table::number(name),
-            place: place,
-            n: 0,
-            m: 0,
-            s: 0,
-            t: 0,
-        },
-        Given::Read(n, m, s, t) => Text {
-            refusal: 0,
-            place: 0,
-            n: n,
-            m: m,
-            s: s,
-            t: t,
-        },
+impl From<Result<Header, Refusal>> for Text {
+    ghost from_gives = { λ given numbers. numbers ≡ text_of (values_of given) };
+
+    #[tactic(auto, unfolding(text::specs::Reading::values_of))]
+    fn from(given: Result<Header, Refusal>) -> Text {
+        match given {
+            Ok(header) => Text {
+                refusal: 0,
+                place: 0,
+                n: header.nodes,
+                m: header.arcs,
+                s: header.source,
+                t: header.sink,
+            },
+            Err(refusal) => Text {
+                refusal: refusal.name.number(),
+                place: refusal.place,
+                n: 0,
+                m: 0,
+                s: 0,
+                t: 0,
+            },
+        }
     }
 }
 
@@ -56,7 +60,7 @@ pub extern "C" fn jorrabide_read_text(
     ensures { ReadsAs text.now tails.old heads.old capacities.old minimums.old
         result tails.new heads.new capacities.new minimums.new }
 {
-    in_numbers(text::read(text, tails, heads, capacities, minimums))
+    text::read(text, tails, heads, capacities, minimums).into()
 }
 
 // `counter::serve`.

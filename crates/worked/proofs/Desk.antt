@@ -9,9 +9,9 @@ use Rattle.table.specs.Ascii.{bytes}
 use Rattle.table.specs.declared.Name.TheVariants.{Long}
 use Rattle.minimums.specs.Checks.{all_zero}
 use Rattle.scan.specs.Parts.{lines}
-use Rattle.text.specs.declared.Given.{Given}
-use Rattle.text.specs.declared.Given.TheVariants.{Read, Refusal}
-use Rattle.text.specs.Reading.{table_in, given_by}
+use Rattle.std.specs.Prelude.{Ok, Err}
+use Rattle.text.specs.Lines.{Given}
+use Rattle.text.specs.Reading.{text_table, given_by}
 use Rattle.text.proofs.Accepting.{read_accepts}
 use Rattle.report.specs.Printed.{refused_text}
 use Rattle.counter.specs.Desk.{AnswerText, DeskAs, DeskText}
@@ -23,8 +23,8 @@ module _ (text : List ℕ) (printed : List ℕ) where
   -- By the reader's answer,
   by_answer : (a : Given) → given_by text 4096 4096 4096 4096 ≡ a → plain_by text a ≡ true → AnswerText text a printed → printed ≡ answer_text text a
   unfolding answer_text plain_by
-  by_answer (Read n m s t) e all may = plain_text_lem (table_in (lines text) n s t) (read_accepts text 4096 4096 4096 4096 e).passes all may
-  by_answer (Refusal name place) e all may = may
+  by_answer (Ok h) e all may = plain_text_lem (text_table (lines text) h.nodes h.source h.sink) (read_accepts text 4096 4096 4096 4096 e).passes all may
+  by_answer (Err why) e all may = may
 
   -- by the text's length,
   by_length : (long : Bool) → plain_text text ≡ true → DeskAs long text printed

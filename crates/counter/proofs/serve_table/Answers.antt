@@ -1,6 +1,6 @@
 -- `serve_table` meets its contract: what solving left is printed.
 use Rattle.counter.proofs.Solves.{few_nodes, few_arcs, prints_left}
-use Rattle.minimums.specs.BoundedTable.{BoundedTable, bounded_of, bounded_in}
+use Rattle.minimums.specs.BoundedTable.{BoundedTable, bounded_in}
 use Rattle.planner.specs.Solving.{signed_left}
 use borrow.Author.Rules.{rules}
 use Rattle.counter.proofs.serve_table.Goals as goal
