@@ -2,8 +2,8 @@
 #![tactic(auto)]
 
 ghost use Rattle.std.specs.Prelude.{◌≡◌};
-ghost use Rattle.table.specs.Table.{lent_table};
-ghost use Rattle.minimums.specs.BoundedTable.{lent_bounded};
+ghost use Rattle.table.specs.Table.{table_of};
+ghost use Rattle.minimums.specs.BoundedTable.{bounded_of};
 ghost use Rattle.solver.specs.Solving.{Meets, left};
 ghost use Rattle.planner.specs.Solving.{Solves, SolvesWell, signed_left};
 ghost use Rattle.planner.specs.Reading.{reading};
@@ -51,9 +51,9 @@ pub extern "C" fn jorrabide_solve(
     side: &mut [u8],
     work: &mut [u32],
 ) -> Signed
-    ensures exact { let table = lent_bounded n s t tails heads capacities minimums in
+    ensures exact { let table = bounded_of n s t tails.now heads.now capacities.now minimums.now in
         Solves table stamp flow.old side.old work.old (signed_left result flow.new side.new work.new) }
-    ensures best { result.refusal ≡ 0 → SolvesWell (lent_bounded n s t tails heads capacities minimums) (signed_left result flow.new side.new work.new) }
+    ensures best { result.refusal ≡ 0 → SolvesWell (bounded_of n s t tails.now heads.now capacities.now minimums.now) (signed_left result flow.new side.new work.new) }
 {
     let bounded = LentBounded {
         table: LentTable {
@@ -85,7 +85,7 @@ pub extern "C" fn jorrabide_read_place(
     side: &[u8],
     place: u32,
 ) -> Reading
-    ensures { result ≡ reading (lent_bounded n s t tails heads capacities minimums) stamp answer flow.now side.now place }
+    ensures { result ≡ reading (bounded_of n s t tails.now heads.now capacities.now minimums.now) stamp answer flow.now side.now place }
 {
     let bounded = LentBounded {
         table: LentTable {
@@ -118,11 +118,11 @@ pub extern "C" fn jorrabide_open(
     side: &mut [u8],
     work: &mut [u32],
 ) -> Answer
-    ensures exact { let table = lent_bounded n s t tails heads capacities minimums in
+    ensures exact { let table = bounded_of n s t tails.now heads.now capacities.now minimums.now in
         left result flow.new side.new work.new ≡ opening table stamp place capacity flow.old side.old work.old }
-    ensures best { let table = lent_table n s t tails heads capacities in
+    ensures best { let table = table_of n s t tails.now heads.now capacities.now in
         result.refusal ≡ 0 → Reopens table (opened table place capacity) flow.old (left result flow.new side.new work.new) }
-    ensures notmax { result.refusal ≡ 23 → MaximumFlow (lent_table n s t tails heads capacities) flow.old → ⊥ }
+    ensures notmax { result.refusal ≡ 23 → MaximumFlow (table_of n s t tails.now heads.now capacities.now) flow.old → ⊥ }
 {
     let bounded = LentBounded {
         table: LentTable {
@@ -152,7 +152,7 @@ pub extern "C" fn jorrabide_write_solution(
     flow: &[u32],
     text: &mut [u8],
 ) -> Written
-    ensures { leftWritten result text.new ≡ writing (lent_bounded n s t tails heads capacities minimums) value flow.now text.old }
+    ensures { leftWritten result text.new ≡ writing (bounded_of n s t tails.now heads.now capacities.now minimums.now) value flow.now text.old }
 {
     let bounded = LentBounded {
         table: LentTable {
@@ -181,7 +181,7 @@ pub extern "C" fn jorrabide_read_solution(
     text: &[u8],
     flow: &mut [u32],
 ) -> ReadBack
-    ensures { leftRead result flow.new ≡ readingBack (lent_bounded n s t tails heads capacities minimums) text.now flow.old }
+    ensures { leftRead result flow.new ≡ readingBack (bounded_of n s t tails.now heads.now capacities.now minimums.now) text.now flow.old }
 {
     let bounded = LentBounded {
         table: LentTable {
@@ -210,7 +210,7 @@ pub extern "C" fn jorrabide_check_plan(
     text: &[u8],
     side: &[u8],
 ) -> Checked
-    ensures { Checks (lent_bounded n s t tails heads capacities minimums) text.now side.now result }
+    ensures { Checks (bounded_of n s t tails.now heads.now capacities.now minimums.now) text.now side.now result }
 {
     let bounded = LentBounded {
         table: LentTable {
@@ -242,9 +242,9 @@ pub extern "C" fn jorrabide_list_chains(
     work: &mut [u32],
     list: &mut [u32],
 ) -> Listed
-    ensures exact { let table = lent_bounded n s t tails heads capacities minimums in
+    ensures exact { let table = bounded_of n s t tails.now heads.now capacities.now minimums.now in
         shown_by result flow.new side.new work.new list.new ≡ listing table stamp flow.old side.old work.old list.old }
-    ensures shows { result.answer.refusal ≡ 0 → Shows (lent_table n s t tails heads capacities) (shown_by result flow.new side.new work.new list.new) }
+    ensures shows { result.answer.refusal ≡ 0 → Shows (table_of n s t tails.now heads.now capacities.now) (shown_by result flow.new side.new work.new list.new) }
 {
     let bounded = LentBounded {
         table: LentTable {
@@ -274,8 +274,8 @@ pub extern "C" fn jorrabide_has_room_for(
     q: u64,
     work: &mut [u32],
 ) -> Room
-    ensures exact { room_left result work.new ≡ asking (lent_bounded n s t tails heads capacities minimums) stamp q work.old }
-    ensures says { result.refusal ≡ 0 → Says (lent_table n s t tails heads capacities) q result }
+    ensures exact { room_left result work.new ≡ asking (bounded_of n s t tails.now heads.now capacities.now minimums.now) stamp q work.old }
+    ensures says { result.refusal ≡ 0 → Says (table_of n s t tails.now heads.now capacities.now) q result }
 {
     let bounded = LentBounded {
         table: LentTable {
@@ -309,10 +309,10 @@ pub extern "C" fn jorrabide_find_openings(
     sinks: &mut [u32],
     places: &mut [u32],
 ) -> Openings
-    ensures exact { let table = lent_bounded n s t tails heads capacities minimums in
+    ensures exact { let table = bounded_of n s t tails.now heads.now capacities.now minimums.now in
         left_openings result flow.new side.new work.new sources.new sinks.new places.new
         ≡ finding table stamp flow.old side.old work.old sources.old sinks.old places.old }
-    ensures best { let table = lent_table n s t tails heads capacities in
+    ensures best { let table = table_of n s t tails.now heads.now capacities.now in
         result.answer.refusal ≡ 0 → Meets table (left result.answer flow.new side.new work.new) × HelpsExactly table }
 {
     let bounded = LentBounded {
@@ -365,12 +365,12 @@ pub extern "C" fn jorrabide_reduce(
 ) -> Reduced
     ensures exact { let small_old = small_rows small_tails.old small_heads.old small_capacities.old nodes_from.old arcs_from.old in
         let small_new = small_rows small_tails.new small_heads.new small_capacities.new nodes_from.new arcs_from.new in
-        let table = lent_bounded n s t tails heads capacities minimums in
+        let table = bounded_of n s t tails.now heads.now capacities.now minimums.now in
         left_reduced result flow.new side.new work.new small_new
         ≡ reducing table stamp flow.old side.old work.old small_old }
     ensures means { let small_old = small_rows small_tails.old small_heads.old small_capacities.old nodes_from.old arcs_from.old in
         let small_new = small_rows small_tails.new small_heads.new small_capacities.new nodes_from.new arcs_from.new in
-        let table = lent_table n s t tails heads capacities in
+        let table = table_of n s t tails.now heads.now capacities.now in
         result.answer.refusal ≡ 0 → Reduces table (left_reduced result flow.new side.new work.new small_new) }
 {
     let bounded = LentBounded {

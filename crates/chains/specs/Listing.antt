@@ -1,6 +1,5 @@
 -- Document 02, CR 3: show who sits where. What listing the chains and rings of a table answers, and what the lent rows hold afterwards.
 use Rattle.std.specs.Prelude.{ℕ, ◌≤◌, ◌≡◌, cond, List, ◌++◌, ltb, length, take, drop, Ok, Err}
-use Rattle.rows.specs.Lent.{LentRow}
 use Rattle.rows.specs.Row.{cleared}
 use Rattle.table.specs.Table.{Table, arcs, network_of}
 use Rattle.table.specs.Checks.{refuse_if, or_else, no_refusal, Verdict}

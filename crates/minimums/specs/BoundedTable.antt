@@ -1,6 +1,5 @@
 -- Document 02, CR 11: a table whose arcs have a least flow, 0 where nothing is said, and its limits.
 use Rattle.std.specs.Prelude.{ℕ, ◌≤◌, ◌<◌, ◌≡◌, List, map, length}
-use Rattle.rows.specs.Lent.{LentRow, before}
 use Rattle.rows.specs.Row.{Node, at_place}
 use Rattle.table.specs.Table.{Table, table_of, table_in}
 use Rattle.table.specs.Accepted.{ArcRows}
@@ -19,10 +18,6 @@ bounded_of n s t tails heads capacities minimums = record { table = table_of n s
 -- The bounded table that a lent one holds.
 abbrev pub bounded_in : LentBounded → BoundedTable
 bounded_in b = record { table = table_in b.table; minimums = b.minimums.now }
-
--- The bounded table in four lent rows, as it was before the call.
-abbrev pub lent_bounded : (n s t : ℕ) (tails heads capacities minimums : LentRow) → BoundedTable
-lent_bounded n s t tails heads capacities minimums = bounded_of n s t (before tails) (before heads) (before capacities) (before minimums)
 
 -- The least flow of the arc at place k.
 abbrev pub minimum : BoundedTable → ℕ → ℕ

@@ -147,20 +147,12 @@ fn is_kept(n: u32, s: u32, t: u32, out: &[u64], into: &[u64]) -> bool
 
 // ---- the cut
 
-// Is node i marked?
-fn is_marked(side: &[u8], i: u32) -> bool
-    requires { Node (length side.now) i }
-    ensures { result ≡ marked side.now i }
-{
-    side[(i - 1) as usize] == 1
-}
-
 // The capacity of an arc that goes from a marked to an unmarked node, and 0 of another.
 fn crossing(side: &[u8], tail: u32, head: u32, capacity: u32) -> u64
     requires { Node (length side.now) tail × Node (length side.now) head }
     ensures { result ≡ only (marked side.now tail && not (marked side.now head)) capacity }
 {
-    if is_marked(side, tail) && !is_marked(side, head) {
+    if reach::is_marked(side, tail) && !reach::is_marked(side, head) {
         u64::from(capacity)
     } else {
         0
@@ -218,8 +210,8 @@ fn cut_fits(table: &LentTable, value: u32, side: &[u8]) -> bool
     requires { Accepted (table_in table.now) × (table.now.nodes ≤ length side.now) }
     ensures { Decides result (CutFits (table_in table.now) value side.now) }
 {
-    is_marked(side, table.source)
-        && !is_marked(side, table.sink)
+    reach::is_marked(side, table.source)
+        && !reach::is_marked(side, table.sink)
         && cut_capacity(table, side) == u64::from(value)
 }
 

@@ -1,6 +1,5 @@
 -- Document 02, CR 14, the call: what it answers, and what the lent rows hold afterwards.
 use Rattle.std.specs.Prelude.{ℕ, suc, ◌<◌, ◌≤◌, Bool, ◌&&◌, List, ◌++◌, length, take, drop, nat_le, Ok, Err}
-use Rattle.rows.specs.Lent.{GivenRow}
 use Rattle.rows.specs.Row.{cleared}
 use Rattle.table.specs.Table.{Table, arcs}
 use Rattle.minimums.specs.BoundedTable.{BoundedTable}

@@ -1,6 +1,5 @@
 -- Document 02, CR 4: solving for the booking server.
 use Rattle.std.specs.Prelude.{ℕ, ◌*◌, cond, List, [], ◌∷◌, ◌++◌, eqb, length, take, drop}
-use Rattle.rows.specs.Lent.{LentRow}
 use Rattle.little.specs.Little.{bytes_of_all}
 use Rattle.table.specs.Table.{Table, arcs}
 use Rattle.table.specs.Checks.{check_of, Verdict}

@@ -1,6 +1,5 @@
 -- What the flow row and the work row hold while the run goes on: for the contracts of the run over one work row.
 use Rattle.std.specs.Prelude.{ℕ, ◌+◌, ◌-◌, ◌≤◌, ◌<◌, ◌≡◌, List, eqb, length, Option}
-use Rattle.rows.specs.Lent.{before}
 use Rattle.rows.specs.Row.{Node, at_place, at_node}
 use Rattle.rows.specs.Sum.{only}
 use Rattle.table.specs.Table.{Table}

@@ -3,7 +3,7 @@ use Prim.Native.Nat.{ℕ}
 use mathlib.Core.Path.{ap, sym}
 use lib.Dec.{eqb}
 use Rattle.rows.proofs.Rows.{node_at}
-use Rattle.planner.proofs.is_marked.Goals as goal
+use Rattle.reach.proofs.is_marked.Goals as goal
 
 pub returns : goal.returns
 returns c =
