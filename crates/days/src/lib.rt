@@ -1,4 +1,4 @@
-// A month of day tables: what it returns.
+// A month of day tables: what is lent to it, and what it returns.
 #![tactic(auto)]
 
 ghost use Rattle.std.specs.Prelude.{◌≡◌};

@@ -1,5 +1,5 @@
 -- Laws of little-endian numbers in rows: as the library reads and writes them, and rows of numbers written one after the other.
-use Prim.Native.Nat.{ℕ, zero, suc, ◌+◌, ◌*◌, ◌/◌, ◌<◌}
+use Prim.Native.Nat.{ℕ, zero, suc, ◌+◌, ◌*◌, ◌/◌, ◌%◌, ◌<◌}
 use mathlib.Core.Path.{◌≡◌, refl, sym, ap, ◌∙◌}
 use mathlib.Core.List.{List, [], ◌∷◌, ◌++◌, append_assoc, append-nil}
 use native.Mathlib.Nat.{mul-zero, mul-suc}
@@ -108,3 +108,18 @@ module _ (width : ℕ) (numbers old : List ℕ) where
           sym (drop-drop width (width * k) (written k))
           ∙ ap (drop width) (drop_at (bytes_of_all width (take k numbers)) (drop (width * k) old) (width * k) size)
           ∙ drop-drop width (width * k) old
+
+-- The bytes of a number made of two halves.
+halves : (low high : ℕ) → low < 4294967296 → bytes_of 8 (low + 4294967296 * high) ≡ bytes_of 4 low ++ bytes_of 4 high
+unfolding bytes_of
+halves low high small =
+    let b : (low + 4294967296 * high) / 256 ≡ low / 256 + 16777216 * high = omega arith in
+    let c : (low / 256 + 16777216 * high) / 256 ≡ low / 256 / 256 + 65536 * high = omega arith in
+    let d : (low / 256 / 256 + 65536 * high) / 256 ≡ low / 256 / 256 / 256 + 256 * high = omega arith in
+    let top : low / 256 / 256 / 256 < 256 = omega arith in
+    let rest : (low / 256 / 256 / 256 + 256 * high) / 256 ≡ high = omega arith in
+    let a' : (low + 4294967296 * high) % 256 ≡ low % 256 = omega arith in
+    let b' : (low / 256 + 16777216 * high) % 256 ≡ low / 256 % 256 = omega arith in
+    let c' : (low / 256 / 256 + 65536 * high) % 256 ≡ low / 256 / 256 % 256 = omega arith in
+    let d' : (low / 256 / 256 / 256 + 256 * high) % 256 ≡ low / 256 / 256 / 256 % 256 = omega arith in
+    rw (b, c, d, rest, a', b', c', d')
