@@ -5,7 +5,9 @@
 
 Each line: the point, what is counted, how many. Point 8 counts lines of proofs.
 """
-import re, subprocess, sys
+import re, signal, subprocess, sys
+
+signal.signal(signal.SIGPIPE, signal.SIG_DFL)
 
 args = [a for a in sys.argv[1:] if a != '-v']
 verbose = '-v' in sys.argv[1:]

@@ -44,7 +44,8 @@ fn list_solved(
     work: &mut [u32],
     list: &mut [u32],
 ) -> Listed
-    requires arc_ends { ArcEnds table.now.nodes table.now.tails.now table.now.heads.now × Node table.now.nodes table.now.source × (length table.now.tails.now ≤ length flows.now) × (table.now.nodes ≤ length marks.now) }
+    requires arc_ends { ArcEnds table.now.nodes table.now.tails.now table.now.heads.now × Node table.now.nodes table.now.source
+        × (length table.now.tails.now ≤ length flows.now) × (table.now.nodes ≤ length marks.now) }
     requires given_room { GivenRoom table.now.nodes table.now.tails.now flow.old side.old work.old }
     ensures { shown_by result flow.new side.new work.new list.new
         ≡ handed_with answer table.now.nodes table.now.source table.now.sink table.now.tails.now table.now.heads.now flows.now marks.now flow.old side.old work.old list.old }
