@@ -1,15 +1,26 @@
 -- The judgement of the lines from a place of the text on, one line further.
 use Prim.Native.Nat.{ℕ, ◌+◌, ◌-◌, ◌<◌, ◌≤◌}
-use mathlib.Core.Path.{◌≡◌, refl, ◌∙◌}
+use mathlib.Core.Path.{◌≡◌, refl, sym, ◌∙◌}
 use mathlib.Core.List.{List}
 use native.Mathlib.Numerals.{add-one}
 use lib.ListN.{length, take, drop}
-use Rattle.std.specs.Prelude.{Option, Result, Ok, Err}
+use Rattle.std.specs.Prelude.{Option, Some, None, Result, Ok, Err}
 use Rattle.scan.specs.Parts.{lines, LF, up_to}
 use Rattle.scan.proofs.Parting.{line_here, lines_end}
 use Rattle.amounts.specs.declared.Kind.{Kind}
+use Rattle.amounts.specs.declared.Kind.TheVariants.{Comment, ValueLine, FlowLine, Other}
 use Rattle.scan.specs.declared.Fault.{Fault}
 use Rattle.amounts.specs.Lines.{kind_of, step_of, end_of, onwards, judge}
+
+-- A line at fault is so at its own place.
+step_place : (said : Option ℕ) (kind : Kind) (place : ℕ) {fault : Fault} → step_of said kind place ≡ Err fault → fault ≡ record { line = place }
+unfolding step_of
+step_place said Comment place e = cc
+step_place None (ValueLine v) place e = cc
+step_place (Some w) (ValueLine v) place e = cc
+step_place None (FlowLine f) place e = cc
+step_place (Some w) (FlowLine f) place e = cc
+step_place said Other place e = cc
 
 -- A line stands at `at` and ends at `stop`; `kind` is what it is and `done` what it does.
 module _ (text : List ℕ) (at stop : ℕ) (said : Option ℕ) (place : ℕ) (h : at < length text) (e : stop ≡ at + up_to LF (drop at text))
@@ -27,7 +38,7 @@ module _ (text : List ℕ) (at stop : ℕ) (said : Option ℕ) (place : ℕ) (h 
   -- It is the first line at fault.
   pub judge_stop : {fault : Fault} → done ≡ Err fault → judge (lines (drop at text)) said place ≡ Err fault
   unfolding onwards
-  judge_stop f = judge_here ∙ rw f refl
+  judge_stop f = judge_here ∙ rw (f, step_place said kind place (sym does ∙ f)) refl
 
 -- At the end of the text the end itself is judged.
 pub judge_end : (text : List ℕ) (at : ℕ) (said : Option ℕ) (place : ℕ) → length text ≤ at → judge (lines (drop at text)) said place ≡ end_of said place

@@ -52,7 +52,7 @@ end_of said place = ok_or said (record { line = place })
 -- A line is followed by the others, or it is the first at fault.
 unfoldable pub onwards : Result (Option ℕ) Fault → (place : ℕ) → (Option ℕ → ℕ → Result ℕ Fault) → Result ℕ Fault
 onwards (Ok said) place rest = rest said (suc place)
-onwards (Err fault) place rest = Err fault
+onwards (Err fault) place rest = Err (record { line = place })
 
 -- The text is judged in line order.
 unfoldable pub judge : List (List ℕ) → (said : Option ℕ) (place : ℕ) → Result ℕ Fault
