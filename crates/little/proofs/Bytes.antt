@@ -1,12 +1,13 @@
 -- Laws of little-endian numbers in rows: as the library reads and writes them, and rows of numbers written one after the other.
-use Prim.Native.Nat.{ℕ, zero, suc, ◌+◌, ◌*◌, ◌/◌, ◌%◌, ◌<◌}
+use Prim.Native.Nat.{ℕ, zero, suc, ◌+◌, ◌-◌, ◌*◌, ◌/◌, ◌%◌, ◌≤◌, ◌<◌}
 use mathlib.Core.Path.{◌≡◌, refl, sym, ap, ◌∙◌}
 use mathlib.Core.List.{List, [], ◌∷◌, ◌++◌, append_assoc, append-nil}
 use native.Mathlib.Nat.{mul-zero, mul-suc}
 use native.Mathlib.Numerals.{add-one}
 use native.Mathlib.Omega.{arith}
-use lib.ListN.{length, get_or, take, drop, length-append}
-use lib.Seq.{take-length, take-suc, take_at, drop_at, drop-drop, length-take-le}
+use lib.ListN.{length, get_or, take, drop, length-append, length-drop}
+use lib.Seq.{take-length, take-suc, take_at, drop_at, drop-drop, take-add, length-take-le}
+use Rattle.rows.specs.Row.{part}
 use Rattle.std.specs.Int.{w32, w64, from_le_bytes, to_le_bytes}
 use Rattle.parts.specs.Placed.{placed}
 use Rattle.little.specs.Little.{number, bytes_of, bytes_of_all}
@@ -123,3 +124,51 @@ halves low high small =
     let c' : (low / 256 / 256 + 65536 * high) % 256 ≡ low / 256 / 256 % 256 = omega arith in
     let d' : (low / 256 / 256 / 256 + 256 * high) % 256 ≡ low / 256 / 256 / 256 % 256 = omega arith in
     rw (b, c, d, rest, a', b', c', d')
+
+-- The eight bytes of a number are the four of its lower half and the four of its upper half,
+pub eight_bytes : (x : ℕ) → bytes_of 8 x ≡ bytes_of 4 (x % 4294967296) ++ bytes_of 4 (x / 4294967296)
+eight_bytes x = ap (bytes_of 8) split ∙ halves (x % 4294967296) (x / 4294967296) (omega arith)
+  where
+    split : x ≡ x % 4294967296 + 4294967296 * (x / 4294967296)
+    split = omega arith
+
+-- and four bytes written behind four are eight.
+pub placed_twice : (at : ℕ) (row low high : List ℕ) → at + 8 ≤ length row → length low ≡ 4
+    → placed (at + 4) (at + 4 + 4) high (placed at (at + 4) low row) ≡ placed at (at + 8) (low ++ high) row
+placed_twice at row low high inside four =
+    let end : at + 4 + 4 ≡ at + 8 = omega arith in
+    rw (front, behind, end, append_assoc (take at row) low (high ++ drop (at + 8) row), append_assoc low high (drop (at + 8) row))
+  where
+    size : length (take at row ++ low) ≡ at + 4
+    size = length-append (take at row) low ∙ omega (arith, length-take-le at row (omega arith), four)
+
+    joined : placed at (at + 4) low row ≡ (take at row ++ low) ++ drop (at + 4) row
+    joined = sym (append_assoc (take at row) low (drop (at + 4) row))
+
+    front : take (at + 4) (placed at (at + 4) low row) ≡ take at row ++ low
+    front = ap (take (at + 4)) joined ∙ take_at (take at row ++ low) (drop (at + 4) row) (at + 4) size
+
+    behind : drop (at + 4 + 4) (placed at (at + 4) low row) ≡ drop (at + 4 + 4) row
+    behind =
+        sym (drop-drop 4 (at + 4) (placed at (at + 4) low row))
+        ∙ ap (drop 4) (ap (drop (at + 4)) joined ∙ drop_at (take at row ++ low) (drop (at + 4) row) (at + 4) size)
+        ∙ drop-drop 4 (at + 4) row
+
+-- Four bytes and more.
+four_and_more : (row more : List ℕ) → length row ≡ 4 → number (row ++ more) ≡ number row + 4294967296 * number more
+unfolding number
+four_and_more [] more e = absurd (omega arith)
+four_and_more (a ∷ []) more e = absurd (omega arith)
+four_and_more (a ∷ b ∷ []) more e = absurd (omega arith)
+four_and_more (a ∷ b ∷ c ∷ []) more e = absurd (omega arith)
+four_and_more (a ∷ b ∷ c ∷ d ∷ []) more e = omega arith
+four_and_more (a ∷ b ∷ c ∷ d ∷ x ∷ row) more e = absurd (omega arith)
+
+-- Two 32-bit numbers side by side are one of 64 bits.
+pub eight_number : (row : List ℕ) (at : ℕ) → at + 8 ≤ length row → number (part at (at + 8) row) ≡ number (part at (at + 4) row) + 4294967296 * number (part (at + 4) (at + 4 + 4) row)
+eight_number row at inside =
+    let eight : (at + 8) - at ≡ 4 + 4 = omega arith in
+    let first : (at + 4) - at ≡ 4 = omega arith in
+    let second : (at + 4 + 4) - (at + 4) ≡ 4 = omega arith in
+    rw (eight, first, second, take-add 4 4 (drop at row), drop-drop 4 at row)
+    (four_and_more (take 4 (drop at row)) (take 4 (drop (at + 4) row)) (length-take-le 4 (drop at row) (omega (arith, length-drop at row))))
