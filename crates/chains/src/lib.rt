@@ -64,7 +64,8 @@ fn list_solved(
     if list.len() < needed {
         return Name::Room.at(0).into();
     }
-    solver::hand_over(table, flows, marks, flow, side, work);
+    let m = table.tails.len();
+    solver::hand_over(table.nodes, m, flows, marks, flow, side, work);
     let filled = walks::list_flow(
         table.nodes,
         table.source,
@@ -114,7 +115,8 @@ pub fn list_chains(
         shown_by result flow.new side.new work.new list.new ≡ listing table stamp flow.old side.old work.old list.old }
     ensures shows { result.answer.refusal ≡ 0 → Shows (table_in bounded.now.table) (shown_by result flow.new side.new work.new list.new) }
 {
-    let room = solver::has_room(&bounded.table, flow.len(), side.len(), work.len());
+    let m = bounded.table.capacities.len();
+    let room = solver::has_room(bounded.table.nodes, m, flow.len(), side.len(), work.len());
     match minimums::plain_check(bounded, room) {
         Err(refusal) => refusal.into(),
         Ok(()) => list_table(&bounded.table, stamp, flow, side, work, list),

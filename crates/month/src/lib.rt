@@ -32,7 +32,8 @@ fn solve_plain(
     ensures { let table = bounded_in bounded.now in
         left result flow.new side.new work.new ≡ plain_solving table stamp flow.old side.old work.old }
 {
-    let room = solver::has_room(&bounded.table, flow.len(), side.len(), work.len());
+    let m = bounded.table.capacities.len();
+    let room = solver::has_room(bounded.table.nodes, m, flow.len(), side.len(), work.len());
     match minimums::plain_check(bounded, room) {
         Err(refusal) => refusal.into(),
         Ok(()) => solver::solve_table(&bounded.table, stamp, flow, side, work),

@@ -331,7 +331,8 @@ pub fn open(
         result.refusal ≡ 0 → Reopens table (opened table place capacity) flow.old (left result flow.new side.new work.new) }
     ensures notmax { result.refusal ≡ 23 → MaximumFlow (table_in bounded.now.table) flow.old → ⊥ }
 {
-    let room = solver::has_room(&bounded.table, flow.len(), side.len(), work.len());
+    let m = bounded.table.capacities.len();
+    let room = solver::has_room(bounded.table.nodes, m, flow.len(), side.len(), work.len());
     match minimums::plain_check(bounded, room) {
         Err(refusal) => refusal.into(),
         Ok(()) => open_accepted(&bounded.table, stamp, place, capacity, flow, side, work),

@@ -225,7 +225,8 @@ fn hand_lists(
     if !room {
         return Name::Room.at(0).into();
     }
-    solver::hand_over(table, flows, marks, flow, side, work);
+    let m = table.tails.len();
+    solver::hand_over(table.nodes, m, flows, marks, flow, side, work);
     write_lists(
         answer,
         table.tails,
@@ -283,7 +284,8 @@ pub fn find_openings(
     ensures best { let table = table_in bounded.now.table in
         result.answer.refusal ≡ 0 → Meets table (left result.answer flow.new side.new work.new) × HelpsExactly table }
 {
-    let room = solver::has_room(&bounded.table, flow.len(), side.len(), work.len());
+    let m = bounded.table.capacities.len();
+    let room = solver::has_room(bounded.table.nodes, m, flow.len(), side.len(), work.len());
     match minimums::plain_check(bounded, room) {
         Err(refusal) => refusal.into(),
         Ok(()) => find_accepted(

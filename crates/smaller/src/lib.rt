@@ -374,7 +374,8 @@ pub fn reduce(
         let table = table_in bounded.now.table in
         result.answer.refusal ≡ 0 → Reduces table (left_reduced result flow.new side.new work.new small_new) }
 {
-    let solving = solver::has_room(&bounded.table, flow.len(), side.len(), work.len());
+    let m = bounded.table.capacities.len();
+    let solving = solver::has_room(bounded.table.nodes, m, flow.len(), side.len(), work.len());
     let room = has_small_room(
         solving,
         bounded.table.nodes,

@@ -64,18 +64,18 @@ fn answer_of(stamp: u32, value: u64, outcome: Outcome) -> Answer
     }
 }
 
-// Whether rows of these lengths have room for a table's flows, marks and work.
-pub fn has_room(table: &LentTable, flow: usize, side: usize, work: usize) -> bool
-    ensures { result ≡ has_room table.now.nodes (arcs (table_in table.now)) flow side work }
+// Whether rows of these lengths have room for the flows, marks and work of n nodes and m arcs.
+pub fn has_room(n: u32, m: usize, flow: usize, side: usize, work: usize) -> bool
+    requires { m < 2 ^ 61 }
+    ensures { result ≡ has_room n m flow side work }
 {
-    let m = table.capacities.len();
     if flow < m {
         return false;
     }
-    if side < (table.nodes as usize) {
+    if side < (n as usize) {
         return false;
     }
-    work::work_need(table.nodes, m) <= work
+    work::work_need(n, m) <= work
 }
 
 // Solves an accepted table whose lists stand in the work row, and leaves them there. The flow row has just its m places.
@@ -131,24 +131,24 @@ pub fn solve_table(
     solve_rows(table, stamp, &mut flow[..m], side, work)
 }
 
-// Hands over what was solved in rows of the call's own: a table's flows and marks are copied, and the lent work row is left as solving leaves it.
+// Hands over what was solved in rows of the call's own: m flows and n marks are copied, and the lent work row is left as solving leaves it.
 pub fn hand_over(
-    table: &LentTable,
+    n: u32,
+    m: usize,
     flows: &[u32],
     marks: &[u8],
     flow: &mut [u32],
     side: &mut [u8],
     work: &mut [u32],
 )
-    requires flows_long { (length table.now.tails.now ≤ length flows.now) × (table.now.nodes ≤ length marks.now) }
-    requires given_room { GivenRoom table.now.nodes table.now.tails.now flow.old side.old work.old }
-    ensures flow_value { flow.new ≡ take (length table.now.tails.now) flows.now ++ drop (length table.now.tails.now) flow.old }
-    ensures side_value { side.new ≡ take table.now.nodes marks.now ++ drop table.now.nodes side.old }
-    ensures work_value { work.new ≡ cleared (work_need table.now.nodes (length table.now.tails.now)) work.old }
+    requires m_in_bounds { (m ≤ length flows.now) × (n ≤ length marks.now) }
+    requires m_bound { (m < 2 ^ 61) × (m ≤ length flow.old) × (n ≤ length side.old) × (work_need n m ≤ length work.old) }
+    ensures flow_value { flow.new ≡ take m flows.now ++ drop m flow.old }
+    ensures side_value { side.new ≡ take n marks.now ++ drop n side.old }
+    ensures work_value { work.new ≡ cleared (work_need n m) work.old }
 {
-    let m = table.tails.len();
-    let nodes = table.nodes as usize;
+    let nodes = n as usize;
     rows::store(flow, 0, &flows[..m]);
     rows::store(side, 0, &marks[..nodes]);
-    rows::clear(work, work::work_need(table.nodes, m));
+    rows::clear(work, work::work_need(n, m));
 }

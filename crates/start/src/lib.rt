@@ -1,9 +1,9 @@
 // The start of the run, the scale and the value.
 #![tactic(auto)]
 
-ghost use Rattle.std.specs.Prelude.{◌≡◌, ◌++◌, ◌+◌, ◌^◌, ◌≤◌, ◌<◌, length, drop};
+ghost use Rattle.std.specs.Prelude.{◌≡◌, ℕ, List, ◌++◌, ◌+◌, ◌^◌, ◌≤◌, ◌<◌, length, drop};
 ghost use Rattle.rows.specs.Row.{Node, at_node, by_node};
-ghost use Rattle.table.specs.Table.{table_in, arcs};
+ghost use Rattle.table.specs.Table.{table_of, table_in, arcs};
 ghost use Rattle.table.specs.Accepted.{ArcRows};
 ghost use Rattle.run.specs.Start.{start_flow, start_label_at, start};
 ghost use Rattle.run.specs.Scale.{largest, phases_for, scale_of};
@@ -15,7 +15,8 @@ use table::LentTable;
 // The start's flow: every arc leaving s is filled, all others are 0. Later places stay.
 pub fn start_flow(table: &LentTable, flow: &mut [u32])
     requires { let table = table_in table.now in (arcs table ≡ length table.tails) × (arcs table ≤ length flow.old) }
-    ensures { let table = table_in table.now in flow.new ≡ start_flow table ++ drop (arcs table) flow.old }
+    ensures { (n t : ℕ) (heads : List ℕ) → (let table = table_of n table.now.source t table.now.tails.now heads table.now.capacities.now in
+        flow.new ≡ start_flow table ++ drop (arcs table) flow.old) }
 {
     for k in 0..table.capacities.len() {
         flow[k] = if table.tails[k] == table.source {
@@ -42,7 +43,8 @@ fn start_label(table: &LentTable, i: u32) -> u32
 // The start's labels.
 pub fn start_labels(table: &LentTable, labels: &mut [u32])
     requires { (length labels.old ≡ table.now.nodes) × (table.now.nodes ≤ 512) }
-    ensures { let table = table_in table.now in labels.new ≡ by_node (start_label_at table) table.nodes }
+    ensures { (tails heads capacities : List ℕ) → (let table = table_of table.now.nodes table.now.source table.now.sink tails heads capacities in
+        labels.new ≡ by_node (start_label_at table) table.nodes) }
 {
     for i in 0..table.nodes {
         labels[i as usize] = start_label(table, i + 1);
@@ -119,7 +121,8 @@ pub fn value(table: &LentTable, flow: &[u32]) -> u64
         (length table.heads ≡ length table.tails) × (length table.tails ≤ length flow.now) × (length table.tails ≤ 4096) }
     requires heads_bound { let table = table_in table.now in
         sum_at table.heads flow.now table.source (length table.heads) ≤ sum_at table.tails flow.now table.source (length table.tails) }
-    ensures { let table = table_in table.now in arcs table ≡ length table.tails → result ≡ value table flow.now }
+    ensures { (n t : ℕ) (capacities : List ℕ) → length capacities ≡ length table.now.tails.now
+        → result ≡ value (table_of n table.now.source t table.now.tails.now table.now.heads.now capacities) flow.now }
 {
     sum_at(table.tails, flow, table.source) - sum_at(table.heads, flow, table.source)
 }

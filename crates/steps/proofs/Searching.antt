@@ -1,6 +1,6 @@
 -- Laws of the arc search and of the relabel's least label, one place at a time.
 use Rattle.std.specs.Prelude.{Some, None}
-use Prim.Native.Nat.{ℕ, zero, suc, ◌+◌, ◌≤◌, ◌<◌}
+use Prim.Native.Nat.{ℕ, zero, suc, ◌+◌, ◌-◌, ◌≤◌, ◌<◌}
 use native.Mathlib.Numerals.{add-one}
 use native.Mathlib.Omega.{arith}
 use mathlib.Core.Path.{◌≡◌, refl, sym, ap, ◌∙◌, subst, subst⁻¹}
@@ -8,12 +8,13 @@ use mathlib.Core.Bool.{Bool, true, false}
 use mathlib.Core.List.{List}
 use lib.ListN.{length, drop, drop_of_length-le}
 use lib.Seq.{drop-cons}
+use borrow.Author.Tests.{eq-eqb, ne_eqb, eqb-true}
 use Rattle.rows.specs.Row.{Node, at_place, at_node}
 use Rattle.rows.proofs.Sums.{by_equal, by_order}
 use Rattle.network.specs.Network.{far_end}
 use Rattle.table.specs.Table.{Table, table_of, network_of, tail, head}
 use Rattle.table.specs.Accepted.{ArcRows}
-use Rattle.arcs.specs.Residual.{way, far, residual}
+use Rattle.arcs.specs.Residual.{way, far, residual, touches}
 use Rattle.run.specs.Start.{State}
 use Rattle.run.specs.Push.{eligible, first_eligible}
 use Rattle.run.specs.Relabel.{lesser, least_far}
@@ -35,6 +36,15 @@ far_node {n} {k} {tails} {heads} {capacities} s t i rows l j e =
     subst⁻¹ (Node n) e
     (far_either (Node n) (table_of n s t tails heads capacities) i k
     (rows.ends.head_node k (omega (arith, rows.capacities_long))) (rows.ends.tail_node k (omega (arith, rows.capacities_long))))
+
+-- Of an arc that touches i the far end is what both ends add up to, less i.
+pub far_sum : (t : Table) (i k : ℕ) → touches t i k ≡ true → (i ≤ tail t k + head t k) × ((tail t k + head t k) - i ≡ far t i k)
+far_sum t i k e =
+    by_equal (tail t k) i
+    (λ is. (omega arith, rw (eq-eqb (tail t k) i is) (omega arith)))
+    (λ ne.
+    let is : head t k ≡ i = eqb-true (head t k) i (rw (ne_eqb (tail t k) i ne) at e) in
+    (omega arith, rw (ne_eqb (tail t k) i ne) (omega arith)))
 
 -- The position where the least label is met is not past the one that is looked at.
 pub met_within : (least label at new j : ℕ) → at ≤ j → (label < least → new ≡ j) × (least ≤ label → new ≡ at) → new ≤ j

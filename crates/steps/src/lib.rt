@@ -34,10 +34,10 @@ pub struct Lowest {
 
 // The end of the arc at place k that is not i: what both ends add up to, less i.
 fn far(table: &LentTable, i: u32, k: u32) -> u32
-    requires arc_ends { let table = table_in table.now in ArcEnds table.nodes table.tails table.heads }
+    requires by_index { (n : ℕ) × ArcEnds n table.now.tails.now table.now.heads.now }
     requires k_in_bounds { let table = table_in table.now in
         (k < length table.tails) × (touching table.tails table.heads i k ≡ true) }
-    ensures { result ≡ far (table_in table.now) i k }
+    ensures { (n s t : ℕ) (capacities : List ℕ) → result ≡ far (table_of n s t table.now.tails.now table.now.heads.now capacities) i k }
 {
     table.tails[k as usize] + table.heads[k as usize] - i
 }
@@ -46,7 +46,7 @@ fn far(table: &LentTable, i: u32, k: u32) -> u32
 fn residual(table: &LentTable, flow: &[u32], i: u32, k: u32) -> u32
     requires k_in_bounds { let table = table_in table.now in (k < length table.tails) × (k < arcs table) }
     requires within_capacities { WithinCapacities table.now.capacities.now flow.now }
-    ensures { result ≡ residual (table_in table.now) flow.now i k }
+    ensures { (n s t : ℕ) (heads : List ℕ) → result ≡ residual (table_of n s t table.now.tails.now heads table.now.capacities.now) flow.now i k }
 {
     if table.tails[k as usize] == i {
         table.capacities[k as usize] - flow[k as usize]
@@ -60,7 +60,7 @@ fn eligible(table: &LentTable, flow: &[u32], labels: &[u32], i: u32, k: u32, the
     requires k_in_bounds { let table = table_in table.now in
         (k < length table.tails) × (k < arcs table) × WithinCapacities table.capacities flow.now }
     requires node { Node (length labels.now) i × Node (length labels.now) there }
-    ensures { (excess : List ℕ) → (let table = table_in table.now in
+    ensures { (n s t : ℕ) (heads excess : List ℕ) → (let table = table_of n s t table.now.tails.now heads table.now.capacities.now in
         there ≡ far table i k → result ≡ eligible table (state_of flow.now excess labels.now) i k) }
 {
     u64::from(rows::at_node(labels, there)) + 1 == u64::from(rows::at_node(labels, i))
@@ -81,7 +81,7 @@ pub fn search(
         (length table.tails ≡ arcs table) × WithinCapacities table.capacities flow.now }
     requires node { Node (length labels.now) i × Beside (length table.now.capacities.now) (length labels.now) list.now ends.now }
     requires from_in_bounds { (from ≤ length list.now) × (length list.now < 2 ^ 32) }
-    ensures { (excess : List ℕ) → (let table = table_in table.now in
+    ensures { (n s t : ℕ) (heads excess : List ℕ) → (let table = table_of n s t table.now.tails.now heads table.now.capacities.now in
         let state = state_of flow.now excess labels.now in
         FarEnds table i list.now ends.now → NoneBefore table state i list.now from → SpotIs table state i list.now result) }
 {
@@ -113,7 +113,7 @@ fn lesser(
     requires k_in_bounds { let table = table_in table.now in
         (k < length table.tails) × (k < arcs table) × WithinCapacities table.capacities flow.now }
     requires node { Node (length labels.now) there }
-    ensures by_index { (excess : List ℕ) → (let table = table_in table.now in
+    ensures by_index { (n s t : ℕ) (heads excess : List ℕ) → (let table = table_of n s t table.now.tails.now heads table.now.capacities.now in
         there ≡ far table i k → result ≡ lesser table (state_of flow.now excess labels.now) i k best) }
     ensures upper_bound { result ≤ best }
 {
@@ -146,7 +146,7 @@ fn least_far(
         (length table.tails ≡ arcs table) × WithinCapacities table.capacities flow.now }
     requires beside { Beside (length table.now.capacities.now) (length labels.now) list.now ends.now × (length list.now < 2 ^ 32) }
     ensures label_le_best { (result.label ≤ best) × (result.at ≤ length list.now) }
-    ensures by_index { (excess : List ℕ) → (let table = table_in table.now in
+    ensures by_index { (n s t : ℕ) (heads excess : List ℕ) → (let table = table_of n s t table.now.tails.now heads table.now.capacities.now in
         let state = state_of flow.now excess labels.now in
         FarEnds table i list.now ends.now → (result.label ≡ least_far table state i list.now best)
         × HighBefore table state i list.now result.at (result.label + 1)) }
@@ -174,7 +174,7 @@ pub fn new_label(
         (length table.tails ≡ arcs table) × WithinCapacities table.capacities flow.now × (length labels.now ≤ 512) }
     requires beside { Beside (length table.now.capacities.now) (length labels.now) list.now ends.now × (length list.now < 2 ^ 32) }
     ensures at_in_bounds { result.at ≤ length list.now }
-    ensures by_index { (excess : List ℕ) → (let table = table_in table.now in
+    ensures by_index { (n s t : ℕ) (heads excess : List ℕ) → (let table = table_of n s t table.now.tails.now heads table.now.capacities.now in
         let state = state_of flow.now excess labels.now in
         FarEnds table i list.now ends.now → (result.label ≡ least_far table state i list.now (2 * length labels.now) + 1)
         × HighBefore table state i list.now result.at result.label) }
@@ -189,11 +189,12 @@ pub fn new_label(
 
 // Puts the far ends of node i's list into a row, from position p on; answers the position behind them.
 pub fn put_ends(table: &LentTable, list: &[u32], ends: &mut [u32], p: usize, i: u32) -> usize
-    requires arc_ends { let table = table_in table.now in ArcEnds table.nodes table.tails table.heads }
+    requires by_index { (n : ℕ) × ArcEnds n table.now.tails.now table.now.heads.now }
     requires all_touch { let table = table_in table.now in
         AllTouch (length table.tails) table.tails table.heads i list.now × (p + length list.now ≤ length ends.old) }
     ensures value { (result ≡ p + length list.now) × ((q : ℕ) → q < p → at_place ends.new q ≡ at_place ends.old q) }
-    ensures by_index { (j : ℕ) → j < length list.now → at_place ends.new (p + j) ≡ far (table_in table.now) i (at_place list.now j) }
+    ensures by_index_2 { (n s t : ℕ) (capacities : List ℕ) (j : ℕ) → j < length list.now
+        → at_place ends.new (p + j) ≡ far (table_of n s t table.now.tails.now table.now.heads.now capacities) i (at_place list.now j) }
 {
     for (j, &k) in list.iter().enumerate() {
         ends[p + j] = far(table, i, k);
@@ -214,7 +215,7 @@ fn amount(
     requires k_in_bounds { let table = table_in table.now in
         (k < length table.tails) × (k < arcs table) × WithinCapacities table.capacities flow.now }
     requires node { Node (length excess.now) i × Node (length excess.now) j × AtMost delta excess.now }
-    ensures { (label : List ℕ) → (let table = table_in table.now in
+    ensures { (n s t : ℕ) (heads label : List ℕ) → (let table = table_of n s t table.now.tails.now heads table.now.capacities.now in
         j ≡ far table i k → result ≡ amount table delta (state_of flow.now excess.now label) i k) }
 {
     let held = u64::from(rows::at_node(excess, i));
@@ -264,11 +265,12 @@ pub fn push(
     k: u32,
     j: u32,
 ) -> bool
-    requires arc_rows { let table = table_in table.now in
-        ArcRows (length excess.old) table.tails table.heads table.capacities × (j ≡ far table i k) }
+    requires by_index { (heads : List ℕ) × ArcRows (length excess.old) table.now.tails.now heads table.now.capacities.now
+        × (j ≡ far (table_of (length excess.old) table.now.source table.now.sink table.now.tails.now heads table.now.capacities.now) i k) }
     requires within_capacities { WithinCapacities table.now.capacities.now flow.old × Node (length excess.old) i × (k < length table.now.capacities.now) }
     requires at_most { AtMost delta excess.old × (total excess.old < 2 ^ 32) }
-    ensures { (label : List ℕ) → Pushed (table_in table.now) delta (state_of flow.old excess.old label) i k flow.new excess.new result }
+    ensures { (n : ℕ) (heads label : List ℕ) → (let table = table_of n table.now.source table.now.sink table.now.tails.now heads table.now.capacities.now in
+        j ≡ far table i k → Pushed table delta (state_of flow.old excess.old label) i k flow.new excess.new result) }
 {
     let left = residual(table, flow, i, k);
     let d = amount(table, flow, excess, delta, i, k, j);

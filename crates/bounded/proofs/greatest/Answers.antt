@@ -1,6 +1,6 @@
 -- `greatest` meets its contract: the minimums added, the lists, the chains filled, the minimums taken away for the marking, and the value.
 use mathlib.Core.Path.{sym}
-use Rattle.arcs.proofs.Work.{in_work_ends, in_work_as_many}
+use Rattle.arcs.proofs.Work.{in_work_as_many}
 use Rattle.bounded.proofs.GoingOn.{adds, ready, lists_asked, takes, sums, marks, leaves}
 use Rattle.bounded.proofs.greatest.Goals as goal
 
@@ -18,7 +18,7 @@ fill_work-requires c =
 pub go_on-requires : goal.go_on-requires
 go_on-requires c = record {
   ready = ready c.requires.solvable c.requires.above c.add_minimums.ensures;
-  in_work = in_work_ends (c.fill_work.ensures.listed c.requires.solvable.accepted.rows.arcs.capacities_long) c.args.bounded.now.table.source c.args.bounded.now.table.sink;
+  in_work = c.fill_work.ensures.listed _ _ _ c.requires.solvable.accepted.rows.arcs.capacities_long;
 }
 
 pub take_minimums-requires : goal.take_minimums-requires
@@ -32,7 +32,7 @@ pub mark-requires : goal.mark-requires
 mark-requires c =
     let asked = marks c.requires.solvable c.requires.above c.add_minimums.ensures c.go_on.ensures c.take_minimums.ensures in record {
       arc_rows = asked.0;
-      in_work = in_work_as_many (c.fill_work.ensures.listed c.requires.solvable.accepted.rows.arcs.capacities_long) c.args.spare.now (sym c.requires.above.spare_long);
+      by_index = (0, 0, in_work_as_many (c.fill_work.ensures.listed 0 0 _ c.requires.solvable.accepted.rows.arcs.capacities_long) c.args.spare.now (sym c.requires.above.spare_long));
       n_in_bounds = asked.1.1;
     }
 
@@ -42,4 +42,4 @@ net_out-requires c =
 
 pub returns : goal.returns
 returns c =
-    leaves c.requires.solvable c.requires.above c.add_minimums.ensures c.go_on.ensures c.take_minimums.ensures c.mark.ensures c.net_out.ensures
+    leaves c.requires.solvable c.requires.above c.add_minimums.ensures c.go_on.ensures c.take_minimums.ensures (c.mark.ensures _) c.net_out.ensures

@@ -1,6 +1,5 @@
 -- `feasible` meets its contract: the lists, the end of going on in the joined network, and the test of the new source's arcs.
 use native.Mathlib.Omega.{arith}
-use Rattle.arcs.proofs.Work.{in_work_ends}
 use Rattle.feasible.proofs.Networks.{table_ready, table_lists, table_long, table_tells}
 use Rattle.feasible.proofs.feasible.Goals as goal
 
@@ -12,7 +11,7 @@ pub go_on-requires : goal.go_on-requires
 go_on-requires c =
     let ready = table_ready c.requires.accepted_bounded c.requires.joined_table c.requires.none_value.0 c.requires.none_value.1 in record {
       ready = ready;
-      in_work = in_work_ends (c.fill_work.ensures.listed ready.rows.arcs.capacities_long) c.args.joined.now.source c.args.joined.now.sink;
+      in_work = c.fill_work.ensures.listed _ _ _ ready.rows.arcs.capacities_long;
     }
 
 pub all_full-requires : goal.all_full-requires

@@ -37,7 +37,7 @@ mark-requires c =
     let sums : (length flow ≡ arcs table) × (sum_at c.args.bounded.now.table.heads.now flow c.args.bounded.now.table.source (length c.args.bounded.now.table.heads.now) ≤ sum_at c.args.bounded.now.table.tails.now flow c.args.bounded.now.table.source (length c.args.bounded.now.table.tails.now)) = last_sums table accepted c.args.flow.now c.requires.flow_len.0 c.requires.flow is_last in
     record {
       arc_rows = (accepted.rows, omega (arith, sums.0), accepted.source);
-      in_work = c.requires.in_work;
+      by_index = (_, _, c.requires.in_work);
       n_in_bounds = c.requires.flow_len.1;
     }
 
@@ -59,8 +59,8 @@ returns c =
     went_rows table c.args.stamp c.args.flow.now c.args.side.now c.args.work.now c.value-value.result c.work_need.result c.answer_of.result
     flow c.mark.new.side c.clear.new.row
     c.requires.flow_len.0 is_last
-    (c.value-value.ensures accepted.rows.capacities_long)
-    c.mark.ensures
+    (c.value-value.ensures _ _ _ accepted.rows.capacities_long)
+    (c.mark.ensures _)
     c.clear.ensures
     c.work_need.ensures
     c.answer_of.ensures

@@ -10,7 +10,7 @@ fill_work-requires c = (ends_wide c.requires.accepted.rows.ends, c.requires.tail
 pub change_verdict-requires : goal.change_verdict-requires
 change_verdict-requires c = record {
   accepted = c.requires.accepted;
-  in_work = c.fill_work.ensures.listed c.requires.accepted.rows.capacities_long;
+  in_work = c.fill_work.ensures.listed _ _ _ c.requires.accepted.rows.capacities_long;
   capacities_in_bounds = c.requires.given_room.0;
 }
 
@@ -19,7 +19,7 @@ open_table-requires c =
     let table : Table = table_in c.args.table.now in
     let given = c.args in record {
       opens = change_asks table given.stamp given.place given.capacity given.flow.now given.side.now given.work.now _ c.change_verdict.ensures c.in-Ok.is c.requires.accepted c.requires.given_room;
-      in_work = c.fill_work.ensures.listed c.requires.accepted.rows.capacities_long;
+      in_work = c.fill_work.ensures.listed _ _ _ c.requires.accepted.rows.capacities_long;
     }
 
 pub returns-in-Err : goal.returns-in-Err

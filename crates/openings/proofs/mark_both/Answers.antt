@@ -19,7 +19,7 @@ pub solve_filled-answer-requires : goal.solve_filled-answer-requires
 solve_filled-answer-requires c =
     let table : Table = table_in c.args.table.now in
     let filled : List ℕ = c.fill_work.new.work in
-    let in_work : InWork table filled = c.fill_work.ensures.listed c.requires.accepted.rows.capacities_long in
+    let in_work : InWork table filled = c.fill_work.ensures.listed _ _ _ c.requires.accepted.rows.capacities_long in
     record {
       fact = (c.requires.accepted, in_work);
       flow_len = (c.requires.flow_len.0, c.requires.flow_len.1);
@@ -29,7 +29,7 @@ pub mark_sink_side-requires : goal.mark_sink_side-requires
 mark_sink_side-requires c =
     let table : Table = table_in c.args.table.now in
     let filled : List ℕ = c.fill_work.new.work in
-    let in_work : InWork table filled = c.fill_work.ensures.listed c.requires.accepted.rows.capacities_long in
+    let in_work : InWork table filled = c.fill_work.ensures.listed _ _ _ c.requires.accepted.rows.capacities_long in
     let worked : List ℕ = c.solve_filled-answer.new.work in
     let still : InWork table worked = in_work_kept table filled worked c.solve_filled-answer.ensures.lists_stay (sym c.solve_filled-answer.auto.work) in_work in
     let long = c.solve_filled-answer.auto.flow ∙ c.requires.flow_len.0 in record {

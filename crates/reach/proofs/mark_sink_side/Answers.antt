@@ -8,6 +8,6 @@ mark-requires c =
     let table = c.args.table.now in
     record {
       arc_rows = (rows_turned c.requires.arc_rows.0, c.requires.arc_rows.1, c.requires.arc_rows.2);
-      in_work = in_work_turned c.requires.in_work table.sink table.source;
+      by_index = (table.sink, table.source, in_work_turned c.requires.in_work table.sink table.source);
       n_in_bounds = c.requires.n_in_bounds;
     }

@@ -25,7 +25,7 @@ pub run_until-stop-requires : goal.run_until-stop-requires
 run_until-stop-requires c =
     let table : Table = table_in c.args.table.now in
     let filled : List ℕ = c.fill_work.new.work in
-    let in_work : InWork table filled = c.fill_work.ensures.listed c.requires.accepted.rows.capacities_long in
+    let in_work : InWork table filled = c.fill_work.ensures.listed _ _ _ c.requires.accepted.rows.capacities_long in
     let part_long : length (take (length c.args.table.now.capacities.now) c.args.flow.now) ≡ length c.args.table.now.capacities.now = length-take-le _ _ c.requires.capacities_in_bounds.0 in
     (c.requires.accepted, in_work, part_long)
 

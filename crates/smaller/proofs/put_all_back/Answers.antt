@@ -21,7 +21,7 @@ put_back-requires c =
 pub mark-requires : goal.mark-requires
 mark-requires c = record {
   arc_rows = (c.requires.fact.0.rows, omega (arith, c.put_back.auto.flow, c.requires.ahead_len.3), c.requires.fact.0.source);
-  in_work = c.requires.fact.1;
+  by_index = (_, _, c.requires.fact.1);
   n_in_bounds = c.requires.ahead_len.4;
 }
 
@@ -40,6 +40,6 @@ returns c =
     let flow_is : flow ≡ by_place back (length c.args.table.now.capacities.now) = c.put_back.ensures ∙ fill_all back (length c.args.table.now.tails.now) c.args.flow.now (omega (arith, longs.1)) ∙ ap (by_place back) longs.0 in
     record {
       flow_value = flow_is;
-      side_value = c.mark.ensures;
+      side_value = c.mark.ensures _;
       work_value = c.clear.ensures ∙ ap (λ (need : ℕ). cleared need c.args.work.now) c.work_need.ensures;
     }

@@ -6,7 +6,7 @@ use Rattle.solver.proofs.hand_over.Goals as goal
 
 pub returns : goal.returns
 returns c = record {
-  flow_value = front_stored _ _ _ _ c.requires.flows_long.0 c.requires.given_room.0 c.store.ensures;
-  side_value = front_stored _ _ _ _ c.requires.flows_long.1 c.requires.given_room.1 c.store-2.ensures;
+  flow_value = front_stored _ _ _ _ c.requires.m_in_bounds.0 c.requires.m_bound.1 c.store.ensures;
+  side_value = front_stored _ _ _ _ c.requires.m_in_bounds.1 c.requires.m_bound.2 c.store-2.ensures;
   work_value = c.clear.ensures ∙ ap (λ end. cleared end c.args.work.now) c.work_need.ensures;
 }

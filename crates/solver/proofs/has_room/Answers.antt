@@ -10,12 +10,12 @@ pub returns-then-flow-m : goal.returns-then-flow-m
 unfolding has_room
 returns-then-flow-m c = simp (lt-leb _ _ c.if-flow-m.true)
 
-pub returns-then-side-table : goal.returns-then-side-table
+pub returns-then-side-n : goal.returns-then-side-n
 unfolding has_room
-returns-then-side-table c = simp (le-leb _ _ c.if-flow-m.false, lt-leb _ _ c.if-side-table.true)
+returns-then-side-n c = simp (le-leb _ _ c.if-flow-m.false, lt-leb _ _ c.if-side-n.true)
 
 pub returns : goal.returns
 unfolding has_room
 returns c =
-    simp (le-leb _ _ c.if-flow-m.false, le-leb _ _ c.if-side-table.false)
+    simp (le-leb _ _ c.if-flow-m.false, le-leb _ _ c.if-side-n.false)
     (ap (λ (x : ℕ). leb x c.args.work) c.work_need.ensures)

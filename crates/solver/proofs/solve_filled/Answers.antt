@@ -36,7 +36,7 @@ mark-requires c =
     let in_work : InWork table work = in_work_kept table c.args.work.now work c.run-outcome.ensures.lists_stay (sym c.run-outcome.auto.work) c.requires.fact.1 in
     record {
       arc_rows = (accepted.rows, omega (arith, as_long), accepted.source);
-      in_work = in_work;
+      by_index = (_, _, in_work);
       n_in_bounds = c.requires.flow_len.1;
     }
 
@@ -49,6 +49,6 @@ returns c =
     filled_by table c.args.stamp c.args.side.now c.args.work.now c.run-outcome.result c.value-value.result c.answer_of.result flow
     c.mark.new.side work
     c.run-outcome.ensures
-    (c.value-value.ensures accepted.rows.capacities_long)
-    c.mark.ensures
+    (c.value-value.ensures _ _ _ accepted.rows.capacities_long)
+    (c.mark.ensures _)
     c.answer_of.ensures

@@ -18,7 +18,7 @@ fill_work-requires c =
 
 pub solve_filled-answer-requires : goal.solve_filled-answer-requires
 solve_filled-answer-requires c = record {
-  fact = (c.requires.accepted, c.fill_work.ensures.listed c.requires.accepted.rows.capacities_long);
+  fact = (c.requires.accepted, c.fill_work.ensures.listed _ _ _ c.requires.accepted.rows.capacities_long);
   flow_len = (c.requires.flow_len.0, c.requires.flow_len.1);
 }
 

@@ -27,6 +27,6 @@ loop-k-preserved c =
 
 pub returns : goal.returns
 unfolding start_flow
-returns c =
+returns c n t heads =
     let all : c.loop-k.k ≡ length c.args.table.now.capacities.now = omega arith in
     rw (← all) c.loop-k.invariant

@@ -23,6 +23,7 @@ returns c =
       work_value = same_state refl (both_excess n given.work.now excess labels c.requires.n_in_bounds.0 excess_size labels_size)
           (both_labels n given.work.now excess labels c.requires.n_in_bounds.0 excess_size labels_size)
           ∙ start_is (table_in given.table.now) given.flow.now c.start_flow.new.flow excess labels c.requires.n_in_bounds.1
-          c.start_flow.ensures c.start_excess.ensures c.start_labels.ensures;
+          (c.start_flow.ensures n given.table.now.sink given.table.now.heads.now) c.start_excess.ensures
+          (c.start_labels.ensures given.table.now.tails.now given.table.now.heads.now given.table.now.capacities.now);
       work_value_2 = both_lists n given.work.now excess labels c.requires.n_in_bounds.0 excess_size labels_size;
     }

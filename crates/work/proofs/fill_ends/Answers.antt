@@ -46,7 +46,7 @@ loop-i-preserved c =
       c.put_ends-p.ensures.value.0 ∙ joined_on T node c.loop-i.p c.loop-i.auto.i before.0 c.node_list.result.now same ∙ sym (before_one_more (list T) node),
       subst⁻¹ (λ (x : ℕ). FarTo T x c.put_ends-p.new.ends) back
           (filled_on T node c.loop-i.p c.loop-i.auto.i before.0 c.node_list.result.now same c.loop-i.ends c.put_ends-p.new.ends before.1 c.put_ends-p.ensures.value.1
-          c.put_ends-p.ensures.by_index),
+          (c.put_ends-p.ensures.by_index_2 T.nodes T.source T.sink T.capacities)),
     )
 
 pub returns-2 : goal.returns-2
@@ -68,5 +68,5 @@ returns-2 c =
       );
       far_is = subst (λ (x : ℕ). FarTo T x c.put_ends-p.new.ends) last
           (filled_on T node c.loop-i.p c.loop-i.auto.i before.0 c.node_list.result.now same c.loop-i.ends c.put_ends-p.new.ends before.1 c.put_ends-p.ensures.value.1
-          c.put_ends-p.ensures.by_index);
+          (c.put_ends-p.ensures.by_index_2 T.nodes T.source T.sink T.capacities));
     }

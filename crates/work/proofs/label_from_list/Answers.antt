@@ -40,7 +40,7 @@ returns c =
     let long = length_labels given.table.now.nodes given.work.now (omega (arith, c.requires.in_work.0.room)) in
     let same = c.node_list.ensures table c.requires.in_work.0 refl refl in
     let found =
-    c.new_label.ensures.by_index excess
+    c.new_label.ensures.by_index table.nodes table.source table.sink table.heads excess
     (subst⁻¹ (λ (l : List ℕ). FarEnds table given.i l c.node_ends.result.now) same (c.node_ends.ensures table c.requires.in_work.0 refl c.requires.in_work.1).1) in
     record {
       label_is = label_is table st given.i c.node_list.result.now _ long same found.0;

@@ -10,7 +10,7 @@ returns c =
     let given = c.args in
     let size = c.push.auto.excess ∙ length_excess given.table.now.nodes given.work.now c.requires.arc_rows.1 in
     let new = c.push.new.excess in
-    let told = c.push.ensures (labels_part given.table.now.nodes given.work.now) in record {
+    let told = c.push.ensures given.table.now.nodes given.table.now.heads.now (labels_part given.table.now.nodes given.work.now) c.requires.fact.3 in record {
       work_value = same_state refl (excess_excess given.table.now.nodes given.work.now new c.requires.arc_rows.1 size) (excess_labels given.table.now.nodes given.work.now new c.requires.arc_rows.1 size)
           ∙ pushed_state told;
       value = told.full_is;

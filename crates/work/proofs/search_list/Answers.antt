@@ -40,6 +40,6 @@ returns c =
     let st = state_in given.table.now.nodes given.flow.now given.work.now in
     let same = c.node_list.ensures table c.requires.in_work.0 refl refl in
     subst (λ (l : List ℕ). SpotIs table st given.i l c.search.result) same
-    (c.search.ensures (excess_part given.table.now.nodes given.work.now)
+    (c.search.ensures table.nodes table.source table.sink table.heads (excess_part given.table.now.nodes given.work.now)
     (subst⁻¹ (λ (l : List ℕ). FarEnds table given.i l c.node_ends.result.now) same (c.node_ends.ensures table c.requires.in_work.0 refl c.requires.in_work.1).1)
     (λ j l. ap (λ (row : List ℕ). eligible table st given.i (at_place row j)) same ∙ c.requires.looked.none given.i c.requires.arc_rows.2 j (omega (arith, c.at_node.ensures))))
