@@ -51,7 +51,10 @@ fn copy_part(numbers: &[u32], row: &mut [u32]) -> Part
             filled: 0,
         };
     }
-    rows::store(row, 0, numbers);
+    // A loop of its own: the library's copy would need `memmove` from whoever links this call.
+    for (k, number) in numbers.iter().enumerate() {
+        row[k] = *number;
+    }
     Part {
         refusal: 0,
         place: 0,
