@@ -107,9 +107,9 @@ pub fn sum_at(ends: &[u32], flow: &[u32], i: u32) -> u64
     ensures { result ≡ sum_at ends.now flow.now i (length ends.now) }
 {
     let mut sum = 0;
-    for (end, x) in ends.iter().zip(flow) {
-        if *end == i {
-            sum += u64::from(*x);
+    for k in 0..ends.len() {
+        if ends[k] == i {
+            sum += u64::from(flow[k]);
         }
     }
     sum

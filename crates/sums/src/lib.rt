@@ -20,7 +20,7 @@ pub fn tally(ends: &[u32], flow: &[u32], sums: &mut [u64])
     requires tallied { Tallied ends.now flow.now 0 sums.old }
     ensures { Tallied ends.now flow.now (length ends.now) sums.new }
 {
-    for (end, x) in ends.iter().zip(flow) {
-        add_at(sums, *end, *x);
+    for k in 0..ends.len() {
+        add_at(sums, ends[k], flow[k]);
     }
 }

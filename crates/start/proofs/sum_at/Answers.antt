@@ -1,29 +1,28 @@
--- `sum_at` meets its contract. The invariant: `sum` is the sum over the places gone over.
+-- `sum_at` meets its contract. The invariant: `sum` is the sum over the places below k.
 use Rattle.start.proofs.Scaling.{sum_on, sum_past}
-use Rattle.std.proofs.lemmas.Slice.Zip.{zip_turn}
 use Rattle.rows.specs.Sum.{sum}
-use lib.ListN.{length, length-append}
-use mathlib.Core.Path.{refl, sym, ◌∙◌}
+use lib.ListN.{length}
+use mathlib.Core.Path.{◌≡◌, refl}
 use native.Mathlib.Omega.{arith}
 use borrow.Author.Rules.{rules}
 use Rattle.start.proofs.sum_at.Goals as goal
+use Rattle.start.proofs.sum_at.Goals.{then-ends-k, else-ends-k}
 
-pub loop-end-init : goal.loop-end-init
+pub loop-k-init : goal.loop-k-init
 unfolding sum
-loop-end-init c = (refl, search rules)
+loop-k-init c = (refl, search rules)
 
-pub loop-end-preserved-then-end-i : goal.loop-end-preserved-then-end-i
-loop-end-preserved-then-end-i c =
-    let given = c.args in
-    let k = length c.loop-end.yielded in
-    let turn = zip_turn given.ends.now given.flow.now c.loop-end.yielded _ _ c.next.new.self _ (search rules) (search rules) c.loop-end.yielded_by (c.in-Some.end, c.in-Some.x) c.in-Some.is c.next.ensures.steps in
-    let more = sum_on given.ends.now given.flow.now given.i k (sym (turn.2 0) ∙ c.if-end-i.true) in
-    rw length-append (omega (arith, turn.3 0, more), omega (arith, turn.3 0))
+pub loop-k-preserved : goal.loop-k-preserved
+loop-k-preserved c =
+    let given = c.args in (
+      elim c.if-ends-k.branch [
+        | then-ends-k w ↦ omega (arith, w.sum-is, sum_on given.ends.now given.flow.now given.i c.loop-k.k w.if-ends-k.true)
+        | else-ends-k w ↦ omega (arith, w.sum-is, sum_past given.ends.now given.flow.now given.i c.loop-k.k w.if-ends-k.false)
+      ],
+      elim c.if-ends-k.branch [ then-ends-k w ↦ omega arith | else-ends-k w ↦ omega arith ],
+    )
 
-pub loop-end-preserved : goal.loop-end-preserved
-loop-end-preserved c =
-    let given = c.args in
-    let k = length c.loop-end.yielded in
-    let turn = zip_turn given.ends.now given.flow.now c.loop-end.yielded _ _ c.next.new.self _ (search rules) (search rules) c.loop-end.yielded_by (c.in-Some.end, c.in-Some.x) c.in-Some.is c.next.ensures.steps in
-    let more = sum_past given.ends.now given.flow.now given.i k (λ e. c.if-end-i.false (turn.2 0 ∙ e)) in
-    rw length-append (omega (arith, more), omega arith)
+pub returns : goal.returns
+returns c =
+    let all : c.loop-k.k ≡ length c.args.ends.now = omega arith in
+    rw (← all) c.loop-k.invariant.0
